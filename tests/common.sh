@@ -1,4 +1,4 @@
-# What the scripts of tests/ share: a script sets `me`, the word that its lines begin with, and then reads this file.
+# What the scripts of tests/ and of bench/ share: a script of tests/ sets `me`, the word that its lines begin with, and then reads this file.
 #     me=flow
 #     . "$(dirname "${BASH_SOURCE[0]}")/../common.sh"
 # Then `here` is the script's folder, `top` the repository's, and `chip` the database of the 1k device.
@@ -34,5 +34,5 @@ find_program() {
 # Has Yosys write the netlist of a source with the top module `top`, as docs/ERRORS.md advises: write_netlist SOURCE BLIF [JSON [COMMANDS]];
 # JSON is the file for nextpnr-ice40, or empty, and COMMANDS are further ones of Yosys.
 write_netlist() {
-    yosys -q -p "read_verilog $1; synth_ice40 -nobram -top top ${3:+-json $3}; splitnets -ports; opt_clean -purge; write_blif -gates -attr -param $2${4:+; $4}"
+    yosys -qq -p "read_verilog $1; synth_ice40 -nobram -top top ${3:+-json $3}; splitnets -ports; opt_clean -purge; write_blif -gates -attr -param $2${4:+; $4}"
 }

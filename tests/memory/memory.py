@@ -46,7 +46,7 @@ def adder():
 
 
 def sample_chip(top, size):
-    made = [sys.executable, f"{top}/tests/memory/sample_chip.py", *map(str, size)]
+    made = [sys.executable, f"{top}/tests/sample_chip.py", *map(str, size)]
     return subprocess.run(made, capture_output=True, text=True, check=True).stdout
 
 

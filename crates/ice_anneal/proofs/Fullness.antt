@@ -9,7 +9,7 @@ use Rattle.std.proofs.Math.Seq.{take-append_seam}
 use Rattle.ice_base.specs.declared.number.TileAt.{TileAt}
 use Rattle.ice_base.specs.Places.{same_tile}
 use Rattle.ice_base.proofs.Keys.{tile_same, tile_self}
-use Rattle.ice_sites.specs.Legal.{Stands, IsAmong, tile_at, IsLegal}
+use Rattle.ice_sites.specs.Legal.{IsInStretch, IsAmong, tile_at, IsLegal}
 use Rattle.ice_place.specs.Place.{AreStretches, joined}
 use Rattle.ice_place.proofs.Weights.{weight_filter, total_joined}
 use Rattle.ice_place.proofs.SitesOnce.{mark, once_stretches, some_stretch, stands_once, one_place}
@@ -71,7 +71,7 @@ get_right : (xs ys : List TileAt) (i : ℕ) (t : TileAt) → slice_get ys i ≡ 
 get_right [] ys i t e = let z : 0 + i ≡ i = omega arith in ap (slice_get ys) z ∙ e
 get_right (x ∷ xs) ys i t e = let z : suc (length xs) + i ≡ suc (length xs + i) = omega arith in ap (slice_get (x ∷ (xs ++ ys))) z ∙ get_right xs ys i t e
 
-stands_joined : (stretches : List (List TileAt)) (i j : ℕ) (t : TileAt) → Stands stretches i j t → (k : ℕ) × (slice_get (joined stretches) k ≡ Some t)
+stands_joined : (stretches : List (List TileAt)) (i j : ℕ) (t : TileAt) → IsInStretch stretches i j t → (k : ℕ) × (slice_get (joined stretches) k ≡ Some t)
 stands_joined [] i j t e = absurd (cc)
 stands_joined (s ∷ stretches) zero j t e = (j, get_left s (joined stretches) j t e)
 stands_joined (s ∷ stretches) (suc i) j t e = let rest = stands_joined stretches i j t e in (length s + rest.0, get_right s (joined stretches) rest.0 t rest.1)

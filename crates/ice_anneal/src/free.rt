@@ -38,14 +38,16 @@ pub fn chunks_of(alloc: Global, clusters: &[Cluster]) -> Result<Vec<Option<(u32,
 
 // Whether a cluster is this chunk.
 fn is_there(places: &IndexMap<Chunk, usize>, chunk: Chunk) -> bool
-    ensures { (chunks : List (Option (ℕ × ℕ))) → Knows chunks places.now.entries → result ≡ list_any (is_chunk chunk) chunks }
+    ensures { (chunks : List (Option (ℕ × ℕ))) → Knows chunks places.now.entries
+        → result ≡ list_any (is_chunk chunk) chunks }
 {
     places.contains_key(&chunk)
 }
 
 // Whether a cluster is the chunk before this one of a run.
 fn is_before_there(places: &IndexMap<Chunk, usize>, own: (u32, u32)) -> bool
-    ensures { (chunks : List (Option (ℕ × ℕ))) → Knows chunks places.now.entries → result ≡ list_any (λ other. is_next other (Some own)) chunks }
+    ensures { (chunks : List (Option (ℕ × ℕ))) → Knows chunks places.now.entries
+        → result ≡ list_any (λ other. is_next other (Some own)) chunks }
 {
     if own.1 == 0 {
         return false;
@@ -55,7 +57,8 @@ fn is_before_there(places: &IndexMap<Chunk, usize>, own: (u32, u32)) -> bool
 
 // Whether a run has another chunk directly before or behind this one.
 fn is_joined(places: &IndexMap<Chunk, usize>, own: (u32, u32)) -> bool
-    ensures { (chunks : List (Option (ℕ × ℕ))) → Knows chunks places.now.entries → result ≡ is_rigid chunks (Some own) }
+    ensures { (chunks : List (Option (ℕ × ℕ))) → Knows chunks places.now.entries
+        → result ≡ is_rigid chunks (Some own) }
 {
     let is_behind = is_there(places, chunk_behind(own));
     is_behind | is_before_there(places, own)
@@ -63,7 +66,8 @@ fn is_joined(places: &IndexMap<Chunk, usize>, own: (u32, u32)) -> bool
 
 // Whether a cluster is of a run of several chunks.
 fn is_rigid(places: &IndexMap<Chunk, usize>, own: Option<(u32, u32)>) -> bool
-    ensures { (chunks : List (Option (ℕ × ℕ))) → Knows chunks places.now.entries → result ≡ is_rigid chunks own }
+    ensures { (chunks : List (Option (ℕ × ℕ))) → Knows chunks places.now.entries
+        → result ≡ is_rigid chunks own }
 {
     match own {
         None => false,

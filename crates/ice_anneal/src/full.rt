@@ -26,7 +26,8 @@ fn add_free(
     taken: &IndexSet<TileAt>,
     sites: &[TileAt],
 ) -> Result<(), NoMemory>
-    ensures { OnOk result (all.new.items ≡ all.old.items ++ filter (is_free taken.now.keys) sites.now) }
+    ensures { OnOk result
+        (all.new.items ≡ all.old.items ++ filter (is_free taken.now.keys) sites.now) }
 {
     for tile in sites {
         if !taken.contains(tile) {
@@ -42,7 +43,8 @@ fn add_stretches(
     taken: &IndexSet<TileAt>,
     stretches: &[Stretch],
 ) -> Result<(), NoMemory>
-    ensures { OnOk result (all.new.items ≡ all.old.items ++ filter (is_free taken.now.keys) (joined stretches.now)) }
+    ensures { OnOk result
+        (all.new.items ≡ all.old.items ++ filter (is_free taken.now.keys) (joined stretches.now)) }
 {
     for stretch in stretches {
         add_free(all, taken, stretch.tiles())?;

@@ -48,7 +48,8 @@ fn lowered(
     requires count { count ≤ length free.now }
     ensures board { IfOk result (λ b. IsBoard wiring.now b) }
     ensures keeps { IfOk result (λ b. Keeps free.now place.now b.place.items) }
-    ensures falls { IfOk result (λ b. wire_length wiring.now.nets.items b.place.items ≤ wire_length wiring.now.nets.items place.now) }
+    ensures falls { IfOk result (λ b. wire_length wiring.now.nets.items b.place.items
+        ≤ wire_length wiring.now.nets.items place.now) }
     ensures least { IfOk result (λ b. IsLeast wiring.now.nets.items free.now b.place.items count) }
 {
     let mut board = Board::new(alloc, wiring, Vec::from_slice(alloc, place)?)?;
@@ -77,9 +78,12 @@ fn descended(
     requires count { length chunks.now ≤ length place.now }
     ensures moved { IfOk result (λ at. IsPermutation place.now at.items) }
     ensures legal { IfOk result (λ at. (stretches : List (List TileAt)) → IsFull stretches place.now
-        → IsLegal stretches chunks.now (take (length chunks.now) place.now) → IsLegal stretches chunks.now (take (length chunks.now) at.items)) }
-    ensures falls { IfOk result (λ at. wire_length wiring.now.nets.items at.items ≤ wire_length wiring.now.nets.items place.now) }
-    ensures least { IfOk result (λ at. IsLeast wiring.now.nets.items free.now at.items (length chunks.now)) }
+        → IsLegal stretches chunks.now (take (length chunks.now) place.now)
+        → IsLegal stretches chunks.now (take (length chunks.now) at.items)) }
+    ensures falls { IfOk result (λ at.
+        wire_length wiring.now.nets.items at.items ≤ wire_length wiring.now.nets.items place.now) }
+    ensures least { IfOk result (λ at.
+        IsLeast wiring.now.nets.items free.now at.items (length chunks.now)) }
 {
     let plain = lowered(alloc, wiring, free, chunks.len(), place)?;
     Ok(tiles_of(plain))
@@ -101,10 +105,14 @@ fn best(
     requires free { free.now ≡ free_of chunks.now (length place.now - length chunks.now) }
     requires count { length chunks.now ≤ length place.now }
     ensures moved { IfOk result (λ at. IsPermutation place.now at.items) }
-    ensures legal { IfOk result (λ at. (stretches : List (List TileAt)) → IsOrder stretches order.now → IsFull stretches place.now
-        → IsLegal stretches chunks.now (take (length chunks.now) place.now) → IsLegal stretches chunks.now (take (length chunks.now) at.items)) }
-    ensures falls { IfOk result (λ at. wire_length wiring.now.nets.items at.items ≤ wire_length wiring.now.nets.items place.now) }
-    ensures least { IfOk result (λ at. IsLeast wiring.now.nets.items free.now at.items (length chunks.now)) }
+    ensures legal { IfOk result (λ at.
+        (stretches : List (List TileAt)) → IsOrder stretches order.now → IsFull stretches place.now
+        → IsLegal stretches chunks.now (take (length chunks.now) place.now)
+        → IsLegal stretches chunks.now (take (length chunks.now) at.items)) }
+    ensures falls { IfOk result (λ at.
+        wire_length wiring.now.nets.items at.items ≤ wire_length wiring.now.nets.items place.now) }
+    ensures least { IfOk result (λ at.
+        IsLeast wiring.now.nets.items free.now at.items (length chunks.now)) }
 {
     let limit = total_of(alloc, wiring, place)?;
     let at = seated(alloc, order, place, wanted)?;
@@ -127,8 +135,10 @@ fn improve_full(
     requires wiring { IsWiring (length place.now) wiring.now }
     requires nets { All (IsNet (length chunks.now)) wiring.now.nets.items }
     requires count { length chunks.now ≤ length place.now }
-    ensures legal { IfOk result (λ at. (stretches : List (List TileAt)) → IsOrder stretches order.now → IsFull stretches place.now
-        → IsLegal stretches chunks.now (take (length chunks.now) place.now) → IsLegal stretches chunks.now at.items) }
+    ensures legal { IfOk result (λ at.
+        (stretches : List (List TileAt)) → IsOrder stretches order.now → IsFull stretches place.now
+        → IsLegal stretches chunks.now (take (length chunks.now) place.now)
+        → IsLegal stretches chunks.now at.items) }
     ensures falls { IfOk result (λ at. wire_length wiring.now.nets.items at.items
         ≤ wire_length wiring.now.nets.items (take (length chunks.now) place.now)) }
     ensures least { IfOk result (λ at. (stretches : List (List TileAt)) → IsFull stretches place.now
@@ -155,8 +165,10 @@ fn improve_some(
     requires nets { All (IsNet (length chunks.now)) nets.items }
     requires few { length nets.items < 2 ^ 32 }
     ensures legal { IfOk result (λ found. IsLegal sites.now chunks.now found.items) }
-    ensures falls { IfOk result (λ found. wire_length nets.items found.items ≤ wire_length nets.items at.now) }
-    ensures least { IfOk result (λ found. IsSwapLeast (wire_length nets.items) chunks.now sites.now found.items) }
+    ensures falls { IfOk result (λ found.
+        wire_length nets.items found.items ≤ wire_length nets.items at.now) }
+    ensures least { IfOk result (λ found.
+        IsSwapLeast (wire_length nets.items) chunks.now sites.now found.items) }
 {
     let stretches = sites.stretches();
     let place = full_of(alloc, stretches, at)?;
@@ -181,8 +193,10 @@ pub(crate) fn improve_nets(
     requires legal { IsLegal sites.now (chunks_of clusters.now.list) placement.now }
     requires nets { All (IsNet (length (chunks_of clusters.now.list))) nets.items }
     ensures legal { IfOk result (λ found. IsLegal sites.now (chunks_of clusters.now.list) found) }
-    ensures falls { IfOk result (λ found. wire_length nets.items found ≤ wire_length nets.items placement.now) }
-    ensures least { IfOk result (λ found. IsSwapLeast (wire_length nets.items) (chunks_of clusters.now.list) sites.now found) }
+    ensures falls { IfOk result (λ found.
+        wire_length nets.items found ≤ wire_length nets.items placement.now) }
+    ensures least { IfOk result (λ found.
+        IsSwapLeast (wire_length nets.items) (chunks_of clusters.now.list) sites.now found) }
 {
     let chunks = chunks_of(alloc, clusters.list())?;
     let number = to_u32(nets.len())?;

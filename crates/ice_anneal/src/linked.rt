@@ -35,8 +35,11 @@ fn is_followed(
     c: usize,
 ) -> bool
     requires { c < length place.now }
-    ensures once { result ≡ true → (low : ℕ × ℕ) → own ≡ Some low → IsOnce places.now.entries (record { run = low.0; number = low.1 }) c }
-    ensures followed { result ≡ true → (low : ℕ × ℕ) → own ≡ Some low → IsFollowed order.now places.now.entries place.now (tile_at place.now c) (record { run = low.0; number = low.1 + 1 }) }
+    ensures once { result ≡ true → (low : ℕ × ℕ) → own ≡ Some low
+        → IsOnce places.now.entries (record { run = low.0; number = low.1 }) c }
+    ensures followed { result ≡ true → (low : ℕ × ℕ) → own ≡ Some low
+        → IsFollowed order.now places.now.entries place.now (tile_at place.now c)
+        (record { run = low.0; number = low.1 + 1 }) }
 {
     match own {
         None => true,
@@ -55,7 +58,8 @@ pub fn are_linked(
     place: &[TileAt],
 ) -> bool
     requires { length chunks.now ≤ length place.now }
-    ensures { result ≡ true → (stretches : List (List TileAt)) → IsOrder stretches order.now → IsLinked stretches chunks.now place.now }
+    ensures { result ≡ true → (stretches : List (List TileAt)) → IsOrder stretches order.now
+        → IsLinked stretches chunks.now place.now }
 {
     for c in 0..chunks.len() {
         if !is_followed(places, chunks[c], order, place, c) {

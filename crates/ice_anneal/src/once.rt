@@ -34,8 +34,10 @@ fn is_at_end(nodes: &[Node], node: Node) -> bool
 
 // Nodes without those that repeat the one before them, or the first.
 fn once(alloc: Global, nodes: &[Node]) -> Result<Vec<Node>, NoMemory>
-    ensures nodes { IfOk result (λ kept. (count : ℕ) → All (IsNode count) nodes.now → All (IsNode count) kept.items) }
-    ensures lengths { IfOk result (λ kept. (at : List TileAt) → net_length at kept.items ≡ net_length at nodes.now) }
+    ensures nodes { IfOk result (λ kept.
+        (count : ℕ) → All (IsNode count) nodes.now → All (IsNode count) kept.items) }
+    ensures lengths { IfOk result (λ kept.
+        (at : List TileAt) → net_length at kept.items ≡ net_length at nodes.now) }
 {
     let mut kept = Vec::new(alloc);
     for &node in nodes {
@@ -49,8 +51,10 @@ fn once(alloc: Global, nodes: &[Node]) -> Result<Vec<Node>, NoMemory>
 /// Nets that are as long by fewer nodes, in time near the number of nodes. It fails for want of memory alone.
 pub fn nets_once(alloc: Global, nets: &[NetNodes]) -> Result<Vec<NetNodes>, NoMemory>
     ensures count { IfOk result (λ found. length found.items ≡ length nets.now) }
-    ensures nets { IfOk result (λ found. (count : ℕ) → All (IsNet count) nets.now → All (IsNet count) found.items) }
-    ensures lengths { IfOk result (λ found. (at : List TileAt) → wire_length found.items at ≡ wire_length nets.now at) }
+    ensures nets { IfOk result (λ found.
+        (count : ℕ) → All (IsNet count) nets.now → All (IsNet count) found.items) }
+    ensures lengths { IfOk result (λ found.
+        (at : List TileAt) → wire_length found.items at ≡ wire_length nets.now at) }
 {
     let mut found = Vec::with_capacity(alloc, nets.len())?;
     for net in nets {

@@ -69,7 +69,8 @@ impl SiteOrder {
 
     /// Whether it is found that a tile stands directly behind another in a stretch.
     pub fn is_behind(&self, low: TileAt, high: TileAt) -> bool
-        ensures { result ≡ true → (stretches : List (List TileAt)) → IsOrder stretches self.now → Follows stretches low high }
+        ensures { result ≡ true → (stretches : List (List TileAt)) → IsOrder stretches self.now
+            → Follows stretches low high }
     {
         let site = self.number_of(low);
         if self.room_from(site) < 2 || !is_at(&self.tiles, site, low) {

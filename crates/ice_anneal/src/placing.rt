@@ -32,7 +32,9 @@ pub fn nets_in(
     pads: &Pads,
 ) -> Result<Vec<NetNodes>, NoMemory>
     ensures nets { IfOk result (λ nets. All (IsNet (length clusters.now.list)) nets.items) }
-    ensures lengths { IfOk result (λ nets. (at : List TileAt) → length at ≡ length clusters.now.list → wire_length nets.items at ≡ length_of chip.now (plan_of clusters.now design.now at pads.now)) }
+    ensures lengths { IfOk result (λ nets. (at : List TileAt) → length at ≡ length clusters.now.list
+        → wire_length nets.items at
+        ≡ length_of chip.now (plan_of clusters.now design.now at pads.now)) }
 {
     // No tile is named: the nets are those of any placement.
     let placed = Placed {
@@ -65,8 +67,12 @@ pub fn improve_from(
     requires sites { sites.now ≡ stretches_of chip.now }
     requires legal { IsLegal sites.now (chunks_of clusters.now.list) placement.now }
     ensures legal { IfOk result (λ found. IsLegal sites.now (chunks_of clusters.now.list) found) }
-    ensures shorter { IfOk result (λ found. length_of chip.now (plan_of clusters.now design.now found pads.now) ≤ length_of chip.now (plan_of clusters.now design.now placement.now pads.now)) }
-    ensures least { IfOk result (λ found. IsSwapLeast (λ at. length_of chip.now (plan_of clusters.now design.now at pads.now)) (chunks_of clusters.now.list) sites.now found) }
+    ensures shorter { IfOk result (λ found.
+        length_of chip.now (plan_of clusters.now design.now found pads.now)
+        ≤ length_of chip.now (plan_of clusters.now design.now placement.now pads.now)) }
+    ensures least { IfOk result (λ found.
+        IsSwapLeast (λ at. length_of chip.now (plan_of clusters.now design.now at pads.now))
+        (chunks_of clusters.now.list) sites.now found) }
 {
     let nets = nets_in(alloc, chip, clusters, design, pads)?;
     let found = improve_nets(alloc, nets, placement, sites, clusters, wanted)?;
@@ -89,8 +95,12 @@ pub fn improve(
     requires sites { sites.now ≡ stretches_of chip.now }
     requires legal { IsLegal sites.now (chunks_of clusters.now.list) placement }
     ensures legal { IfOk result (λ found. IsLegal sites.now (chunks_of clusters.now.list) found) }
-    ensures shorter { IfOk result (λ found. length_of chip.now (plan_of clusters.now design.now found pads.now) ≤ length_of chip.now (plan_of clusters.now design.now placement pads.now)) }
-    ensures least { IfOk result (λ found. IsSwapLeast (λ at. length_of chip.now (plan_of clusters.now design.now at pads.now)) (chunks_of clusters.now.list) sites.now found) }
+    ensures shorter { IfOk result (λ found.
+        length_of chip.now (plan_of clusters.now design.now found pads.now)
+        ≤ length_of chip.now (plan_of clusters.now design.now placement pads.now)) }
+    ensures least { IfOk result (λ found.
+        IsSwapLeast (λ at. length_of chip.now (plan_of clusters.now design.now at pads.now))
+        (chunks_of clusters.now.list) sites.now found) }
 {
     let tiles = arrange_clusters(alloc, chip, sites, design, clusters, &placement, pads, seed)?;
     let found = improve_from(

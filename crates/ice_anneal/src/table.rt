@@ -43,7 +43,8 @@ fn note(
     own: Option<(u32, u32)>,
     place: usize,
 ) -> Result<(), NoMemory>
-    ensures { OnOk result ((chunk : Chunk) → is_some (lookup (same_chunk chunk) places.new.entries) ≡ (is_some (lookup (same_chunk chunk) places.old.entries) || is_chunk chunk own)) }
+    ensures { OnOk result ((chunk : Chunk) → is_some (lookup (same_chunk chunk) places.new.entries)
+        ≡ (is_some (lookup (same_chunk chunk) places.old.entries) || is_chunk chunk own)) }
 {
     if let Some(own) = own {
         places.insert(chunk_at(own), place)?;

@@ -37,7 +37,8 @@ fn length_on(
     pads: &Pads,
 ) -> Result<u64, NoMemory>
     requires { length placement.now ≡ length clusters.now.list }
-    ensures { IfOk result (λ n. n ≡ length_of chip.now (plan_of clusters.now design.now placement.now pads.now)) }
+    ensures { IfOk result (λ n.
+        n ≡ length_of chip.now (plan_of clusters.now design.now placement.now pads.now)) }
 {
     let nets = nets_in(alloc, chip, clusters, design, pads)?;
     let number = to_u32(nets.len())?;
@@ -58,7 +59,9 @@ pub fn is_no_longer(
 ) -> Result<bool, NoMemory>
     requires clusters { length placement.now ≡ length clusters.now.list }
     requires others { length place.now ≡ length others.now.list }
-    ensures { IfOk result (λ b. b ≡ true → length_of chip.now (plan_of others.now design.now place.now pads.now) ≤ length_of chip.now (plan_of clusters.now design.now placement.now pads.now)) }
+    ensures { IfOk result (λ b. b ≡ true
+        → length_of chip.now (plan_of others.now design.now place.now pads.now)
+        ≤ length_of chip.now (plan_of clusters.now design.now placement.now pads.now)) }
 {
     let now = length_on(alloc, chip, others, design, place, pads)?;
     let before = length_on(alloc, chip, clusters, design, placement, pads)?;

@@ -46,7 +46,8 @@ pub fn by_ranks(
 ) -> Result<Ordered, NoMemory>
     requires { clusters.now ≡ clusters_of design.now }
     ensures ranks { IfOk result (λ made. made.clusters ≡ clusters_by made.ranks design.now) }
-    ensures chunks { IfOk result (λ made. chunks_of made.clusters.list ≡ chunks_of clusters.now.list) }
+    ensures chunks { IfOk result (λ made.
+        chunks_of made.clusters.list ≡ chunks_of clusters.now.list) }
 {
     orders_have_the_same_chunks();
     let others = cluster_by(alloc, design, ranks.as_slice())?;

@@ -44,9 +44,14 @@ fn improved(
     requires sites { sites.now ≡ stretches_of chip.now }
     requires legal { IsLegal sites.now (chunks_of ordered.clusters.list) first.now }
     ensures same { IfOk result (λ made. made.ordered ≡ ordered) }
-    ensures legal { IfOk result (λ made. IsLegal sites.now (chunks_of made.ordered.clusters.list) made.placement) }
-    ensures shorter { IfOk result (λ made. length_of chip.now (plan_of ordered.clusters design.now made.placement pads.now) ≤ length_of chip.now (plan_of ordered.clusters design.now first.now pads.now)) }
-    ensures least { IfOk result (λ made. IsSwapLeast (λ at. length_of chip.now (plan_of made.ordered.clusters design.now at pads.now)) (chunks_of made.ordered.clusters.list) sites.now made.placement) }
+    ensures legal { IfOk result (λ made.
+        IsLegal sites.now (chunks_of made.ordered.clusters.list) made.placement) }
+    ensures shorter { IfOk result (λ made.
+        length_of chip.now (plan_of ordered.clusters design.now made.placement pads.now)
+        ≤ length_of chip.now (plan_of ordered.clusters design.now first.now pads.now)) }
+    ensures least { IfOk result (λ made. IsSwapLeast
+        (λ at. length_of chip.now (plan_of made.ordered.clusters design.now at pads.now))
+        (chunks_of made.ordered.clusters.list) sites.now made.placement) }
 {
     let placement = improve_from(
         alloc,
@@ -78,10 +83,16 @@ pub fn settle(
     requires sites { sites.now ≡ stretches_of chip.now }
     requires clusters { clusters ≡ clusters_of design.now }
     requires legal { IsLegal sites.now (chunks_of clusters.list) first }
-    ensures clusters { IfOk result (λ made. made.ordered.clusters ≡ clusters_by made.ordered.ranks design.now) }
-    ensures legal { IfOk result (λ made. IsLegal sites.now (chunks_of made.ordered.clusters.list) made.placement) }
-    ensures shorter { IfOk result (λ made. length_of chip.now (plan_of made.ordered.clusters design.now made.placement pads.now) ≤ length_of chip.now (plan_of clusters design.now first pads.now)) }
-    ensures least { IfOk result (λ made. IsSwapLeast (λ at. length_of chip.now (plan_of made.ordered.clusters design.now at pads.now)) (chunks_of made.ordered.clusters.list) sites.now made.placement) }
+    ensures clusters { IfOk result (λ made.
+        made.ordered.clusters ≡ clusters_by made.ordered.ranks design.now) }
+    ensures legal { IfOk result (λ made.
+        IsLegal sites.now (chunks_of made.ordered.clusters.list) made.placement) }
+    ensures shorter { IfOk result (λ made.
+        length_of chip.now (plan_of made.ordered.clusters design.now made.placement pads.now)
+        ≤ length_of chip.now (plan_of clusters design.now first pads.now)) }
+    ensures least { IfOk result (λ made. IsSwapLeast
+        (λ at. length_of chip.now (plan_of made.ordered.clusters design.now at pads.now))
+        (chunks_of made.ordered.clusters.list) sites.now made.placement) }
 {
     let Arranged { ranks, tiles } = arrange(
         alloc, chip, sites, design, &clusters, &first, pads, seed,

@@ -56,8 +56,11 @@ impl Board {
         ensures bound { All (λ n. n ≤ 131070) self.new.lengths.items }
         ensures total { self.new.total ≡ sum self.new.lengths.items }
         ensures right { (k : ℕ) (net : NetNodes) → At wiring.now.nets.items k net
-            → Contains nets.now k ⊎ (slice_index self.old.lengths.items k ≡ net_length self.old.place.items net.nodes.items)
-            → slice_index self.new.lengths.items k ≡ net_length self.old.place.items net.nodes.items }
+            → Contains nets.now k
+            ⊎ (slice_index self.old.lengths.items k
+            ≡ net_length self.old.place.items net.nodes.items)
+            → slice_index self.new.lengths.items k
+            ≡ net_length self.old.place.items net.nodes.items }
     {
         for &net in nets {
             let length = length_of_net(&self.place, &wiring.nets[net].nodes);
@@ -104,7 +107,8 @@ impl Board {
         requires c { c < length free.now }
         requires may { IsFree free.now c }
         ensures board { IsBoard wiring.now self.new }
-        ensures lowered { LoweredFrom wiring.now.nets.items free.now self.old self.new c (length free.now) }
+        ensures lowered { LoweredFrom wiring.now.nets.items free.now self.old self.new
+            c (length free.now) }
     {
         for d in c + 1..free.len() {
             if free[d] {

@@ -35,7 +35,8 @@ fn ends_with(list: &[usize], number: usize) -> bool
 fn add(list: &mut Vec<usize>, net: usize) -> Result<(), NoMemory>
     ensures noted { OnOk result (Contains list.new.items net) }
     ensures kept { OnOk result ((j : ℕ) → Contains list.old.items j → Contains list.new.items j) }
-    ensures within { OnOk result ((limit : ℕ) → net < limit → All (λ j. j < limit) list.old.items → All (λ j. j < limit) list.new.items) }
+    ensures within { OnOk result ((limit : ℕ) → net < limit → All (λ j. j < limit) list.old.items
+        → All (λ j. j < limit) list.new.items) }
 {
     if !ends_with(list, net) {
         list.push(net)?;
@@ -76,7 +77,8 @@ fn note_net(touching: &mut Vec<Touched>, net: usize, nodes: &[Node]) -> Result<(
 // Notes nets, the first of which has the number 0.
 fn note_nets(touching: &mut Vec<Touched>, nets: &[NetNodes]) -> Result<(), NoMemory>
     requires { All (IsNet (length touching.old.items)) nets.now }
-    ensures { OnOk result ((count : ℕ) → Wired count nets.now 0 touching.old.items → Wired count nets.now (length nets.now) touching.new.items) }
+    ensures { OnOk result ((count : ℕ) → Wired count nets.now 0 touching.old.items
+        → Wired count nets.now (length nets.now) touching.new.items) }
 {
     for (k, net) in nets.iter().enumerate() {
         note_net(touching, k, &net.nodes)?;

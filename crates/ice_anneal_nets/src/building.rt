@@ -63,7 +63,8 @@ fn add_nets(
     roots: &[Option<Node>],
     readers: &[Items<Node>],
 ) -> Result<(), NoMemory>
-    ensures { OnOk result (nodes_in nets.new.items ≡ nodes_in nets.old.items ++ nets_by roots.now readers.now) }
+    ensures { OnOk result
+        (nodes_in nets.new.items ≡ nodes_in nets.old.items ++ nets_by roots.now readers.now) }
 {
     for k in 0..roots.len().min(readers.len()) {
         nets.push(NetNodes {
@@ -80,8 +81,8 @@ fn add_pads(
     ports: &[Pad],
     readers: &[Items<Node>],
 ) -> Result<(), NoMemory>
-    ensures { OnOk result (nodes_in nets.new.items
-        ≡ nodes_in nets.old.items ++ nets_by (table (λ k. option_map pad_node (slice_get ports.now k)) (length ports.now)) readers.now) }
+    ensures { OnOk result (nodes_in nets.new.items ≡ nodes_in nets.old.items ++ nets_by
+        (table (λ k. option_map pad_node (slice_get ports.now k)) (length ports.now)) readers.now) }
 {
     let roots = pad_nodes(alloc, ports)?;
     add_nets(alloc, nets, roots.as_slice(), readers)
@@ -94,8 +95,9 @@ fn add_cells(
     placed: &Placed<'_>,
     readers: &[Items<Node>],
 ) -> Result<(), NoMemory>
-    ensures { OnOk result (nodes_in nets.new.items
-        ≡ nodes_in nets.old.items ++ nets_by (table (holder 0 placed.now.clusters.now) (length placed.now.design.now.cells)) readers.now) }
+    ensures { OnOk result (nodes_in nets.new.items ≡ nodes_in nets.old.items
+        ++ nets_by (table (holder 0 placed.now.clusters.now) (length placed.now.design.now.cells))
+        readers.now) }
 {
     let roots = holders_of(alloc, placed.clusters, placed.design.cells().len())?;
     add_nets(alloc, nets, roots.as_slice(), readers)

@@ -16,7 +16,8 @@ use std::alloc::Global;
 /// matter. It fails for want of memory alone.
 pub fn measuring_nets(alloc: Global, placed: &Placed<'_>) -> Result<Vec<NetNodes>, NoMemory>
     ensures nets { IfOk result (λ nets. All (IsNet (length placed.now.clusters.now)) nets.items) }
-    ensures lengths { IfOk result (λ nets. (at : List TileAt) → length at ≡ length placed.now.clusters.now
+    ensures lengths { IfOk result (λ nets.
+        (at : List TileAt) → length at ≡ length placed.now.clusters.now
         → wire_length nets.items at ≡ length_of placed.now.chip.now (plan_at placed.now at)) }
 {
     let nets = nets_of(alloc, placed)?;

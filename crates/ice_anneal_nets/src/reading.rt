@@ -119,7 +119,8 @@ fn add_numbered(
     node: Node,
     c: u32,
 ) -> Result<(), NoMemory>
-    ensures { OnOk result (reads.new.items ≡ reads.old.items ++ slot_reads cells.now node (Some c)) }
+    ensures { OnOk result
+        (reads.new.items ≡ reads.old.items ++ slot_reads cells.now node (Some c)) }
 {
     match cells.get(c as usize) {
         None => {}
@@ -151,7 +152,8 @@ fn add_slots(
     node: Node,
     slots: &[Option<u32>],
 ) -> Result<(), NoMemory>
-    ensures { OnOk result (reads.new.items ≡ reads.old.items ++ slots_reads cells.now node slots.now) }
+    ensures { OnOk result
+        (reads.new.items ≡ reads.old.items ++ slots_reads cells.now node slots.now) }
 {
     for slot in slots {
         add_slot(reads, cells, node, *slot)?;
@@ -167,7 +169,8 @@ fn add_cluster(
     k: usize,
     cluster: &Cluster,
 ) -> Result<(), NoMemory>
-    ensures { OnOk result (reads.new.items ≡ reads.old.items ++ cluster_reads cells.now k cluster.now) }
+    ensures { OnOk result
+        (reads.new.items ≡ reads.old.items ++ cluster_reads cells.now k cluster.now) }
 {
     add_slots(reads, cells, Node::Cluster(k), cluster.cells.as_slice())?;
     add_control(reads, Node::Cluster(k), cluster.control)?;
@@ -180,7 +183,8 @@ fn add_clusters(
     cells: &[LogicCell],
     clusters: &[Cluster],
 ) -> Result<(), NoMemory>
-    ensures { OnOk result (reads.new.items ≡ reads.old.items ++ clusters_reads cells.now 0 clusters.now) }
+    ensures { OnOk result
+        (reads.new.items ≡ reads.old.items ++ clusters_reads cells.now 0 clusters.now) }
 {
     for k in 0..clusters.len() {
         add_cluster(reads, cells, k, &clusters[k])?;
@@ -190,7 +194,8 @@ fn add_clusters(
 
 /// What reads roots in a design, by nodes.
 pub fn reads_of(alloc: Global, placed: &Placed<'_>) -> Result<Vec<Read>, NoMemory>
-    ensures { IfOk result (λ reads. reads.items ≡ reads_of placed.now.chip.now (plan_in placed.now)) }
+    ensures { IfOk result (λ reads.
+        reads.items ≡ reads_of placed.now.chip.now (plan_in placed.now)) }
 {
     let mut reads = Vec::new(alloc);
     add_pads(&mut reads, placed.ports, placed.design.pads())?;

@@ -4,12 +4,12 @@ use Rattle.std.proofs.lemmas.Grind.{flat_map-append}
 use Rattle.std.specs.List.{flat_map, range_with_len}
 use Rattle.std.proofs.lemmas.List.{take_more}
 use Rattle.std.proofs.lemmas.List.FromFn.{map-range_with_len_more}
-use Rattle.ice_base.specs.declared.number.BitAt.{BitAt}
-use Rattle.ice_base.specs.Text.{text_of_lines}
+use Rattle.ice_base.specs.declared.bit.BitAt.{BitAt}
+use Rattle.ice_base.specs.Lines.{text_of_lines}
 use Rattle.ice_base.proofs.Pieces.{text_join, further}
 use Rattle.ice_chip.specs.declared.tile.Tile.{Tile}
 use Rattle.ice_chip.specs.Database.{Parts, columns}
-use Rattle.ice_chip.specs.Lookups.{tile_of}
+use Rattle.ice_chip.specs.Listings.{tile_of}
 use Rattle.ice_bits.specs.Configuration.{Configuration, bit_at, rows_at}
 use Rattle.ice_asc.specs.Text.{digit_of_bit, bit_at_place, row_line, spaced, tile_heading, tile_lines, extra_line, asc_text}
 

@@ -5,16 +5,18 @@ use Rattle.std.specs.List.{AllByRecursion, flat_map, range_with_len, IsDistinct}
 use Rattle.std.specs.Map.{lookup, keys_of}
 use Rattle.std.proofs.lemmas.List.Elements.{recursion_from_All, All-weaker}
 use Rattle.ice_base.specs.declared.number.TileAt.{TileAt}
-use Rattle.ice_base.specs.declared.number.BitAt.{BitAt}
-use Rattle.ice_base.specs.Text.{numbered, IsLine}
+use Rattle.ice_base.specs.declared.bit.BitAt.{BitAt}
+use Rattle.ice_base.specs.Text.{numbered}
+use Rattle.ice_base.specs.Lines.{IsLine}
 use Rattle.ice_base.proofs.TextLines.{all_append, word_line, lines_read}
 use Rattle.ice_chip.specs.Database.{Parts, same_tile, columns, tile_known}
-use Rattle.ice_chip.specs.Lookups.{tile_of}
+use Rattle.ice_chip.specs.Listings.{tile_of}
 use Rattle.ice_chip.specs.Within.{IsPlace}
 use Rattle.ice_chip.specs.declared.rows.TileLine.{TileLine}
 use Rattle.ice_chip.specs.declared.rows.TileKind.{TileKind}
 use Rattle.ice_chip.specs.declared.tile.Tile.{Tile}
-use Rattle.ice_bits.specs.Configuration.{Configuration, bit_at, bits_of, rows_at, IsGrid, AreGrids, IsOf, blank_rows, blank_tile, blank}
+use Rattle.ice_bits.specs.Configuration.{Configuration, bit_at, bits_of, rows_at}
+use Rattle.ice_bits.specs.Grids.{IsGrid, AreGrids, IsOf, blank_rows, blank_tile, blank}
 use Rattle.ice_bits.specs.Rewriting.{with_rows}
 use Rattle.ice_asc.specs.Faults.{◌>>=◌}
 use Rattle.ice_asc.specs.Grammar.{Reading, start, lines_say, end_says, asc_in}

@@ -11,11 +11,13 @@ use Rattle.ice_chip.specs.Functions.{same_kind}
 use Rattle.ice_chip.specs.declared.rows.TileKind.{TileKind}
 use Rattle.ice_chip.specs.declared.rows.TileKind.TheVariants.{Io, Logic, RamBottom, RamTop}
 use Rattle.ice_chip.specs.declared.rows.TileLine.{TileLine}
-use Rattle.ice_bits.specs.Configuration.{Configuration, is_of_kind, IsGrid, IsOf}
+use Rattle.ice_bits.specs.Configuration.{Configuration}
+use Rattle.ice_bits.specs.Grids.{is_of_kind, IsGrid, IsOf}
 use Rattle.ice_bits.specs.Rewriting.{with_rows}
 use Rattle.ice_bits.proofs.Forms.{blank_is_of, with_rows_is_of}
 use Rattle.ice_asc.specs.Faults.{◌>>=◌}
-use Rattle.ice_asc.specs.Words.{heading_of, row_of_words, tile_of_words, extra_of_words}
+use Rattle.ice_asc.specs.Words.{row_of_words, tile_of_words, extra_of_words}
+use Rattle.ice_asc.specs.Headings.{heading_of}
 use Rattle.ice_base.specs.Lists.{all_known}
 use Rattle.ice_base.specs.Places.{digit_value}
 use Rattle.ice_asc.specs.Grammar.{Reading, start, with_row, known_row, row_says, device_says, opened, tile_says, extra_says, heading_says, words_say, line_says, at_line, lines_say, end_says, asc_in}

@@ -3,7 +3,8 @@ use Rattle.std.proofs.Common.{◌≡◌, ◌≢◌, ℕ, ◌<◌, ◌==◌, ◌^
 use Rattle.std.specs.Prelude.{codes, decimal}
 use Rattle.std.specs.List.{AllByRecursion, list_all}
 use Rattle.std.proofs.lemmas.Bool.{and_parts}
-use Rattle.ice_base.specs.Text.{lines, ends_word, IsLine, IsWord}
+use Rattle.ice_base.specs.Text.{lines, ends_word}
+use Rattle.ice_base.specs.Lines.{IsLine, IsWord}
 use Rattle.ice_base.proofs.TextLaws.{decimal_is_word}
 use Rattle.ice_base.proofs.TextLines.{word_line}
 use Rattle.ice_chip.specs.declared.rows.TileKind.{TileKind}

@@ -6,9 +6,10 @@ use Rattle.std.proofs.lemmas.List.{length-map, get_or-map}
 use Rattle.std.proofs.lemmas.List.FromFn.{fill_by_all}
 use Rattle.std.proofs.lemmas.List.Elements.{All-get_or}
 use Rattle.ice_base.specs.declared.number.TileAt.{TileAt}
-use Rattle.ice_base.specs.declared.number.BitAt.{BitAt}
+use Rattle.ice_base.specs.declared.bit.BitAt.{BitAt}
 use Rattle.ice_chip.specs.Database.{same_tile}
-use Rattle.ice_bits.specs.Configuration.{bit_in, IsGrid}
+use Rattle.ice_bits.specs.Configuration.{bit_in}
+use Rattle.ice_bits.specs.Grids.{IsGrid}
 use Rattle.ice_bits.specs.Rewriting.{tiles_with}
 use Rattle.ice_asc.specs.Text.{digit_of_bit, bit_at_place, row_line}
 

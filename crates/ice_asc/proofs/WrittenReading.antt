@@ -6,7 +6,8 @@ use Rattle.std.specs.Option.{option_and_then}
 use Rattle.std.proofs.lemmas.List.{length-map}
 use Rattle.std.proofs.lemmas.Bool.{eq-eqb}
 use Rattle.ice_base.specs.declared.number.TileAt.{TileAt}
-use Rattle.ice_base.specs.Text.{number_in, numbered, next_number, words, pieces, IsWord, begins_with}
+use Rattle.ice_base.specs.Text.{number_in, numbered, next_number, words, pieces, begins_with}
+use Rattle.ice_base.specs.Lines.{IsWord}
 use Rattle.ice_base.proofs.TextLaws.{first_word, last_word, number_in_decimal, decimal_is_word}
 use Rattle.ice_chip.specs.Database.{Parts, same_tile, columns, tile_known}
 use Rattle.ice_chip.specs.Functions.{same_kind}
@@ -15,10 +16,12 @@ use Rattle.ice_chip.specs.declared.rows.TileKind.{TileKind}
 use Rattle.ice_chip.specs.declared.rows.TileKind.TheVariants.{Io, Logic, RamBottom, RamTop}
 use Rattle.ice_chip.specs.declared.rows.TileLine.{TileLine}
 use Rattle.ice_chip.specs.declared.tile.Tile.{Tile}
-use Rattle.ice_bits.specs.Configuration.{Configuration, is_of_kind, blank}
+use Rattle.ice_bits.specs.Configuration.{Configuration}
+use Rattle.ice_bits.specs.Grids.{is_of_kind, blank}
 use Rattle.ice_bits.specs.Rewriting.{with_rows}
 use Rattle.ice_asc.specs.Faults.{◌>>=◌}
-use Rattle.ice_asc.specs.Words.{heading_of_kind, heading_of, row_of_words, tile_below, tile_of_words, extra_bit, extra_of_words}
+use Rattle.ice_asc.specs.Words.{heading_of_kind, row_of_words, tile_below, tile_of_words, extra_bit, extra_of_words}
+use Rattle.ice_asc.specs.Headings.{heading_of}
 use Rattle.ice_base.specs.Lists.{all_known}
 use Rattle.ice_base.specs.Places.{digit_value}
 use Rattle.ice_chip.proofs.SameKinds.{kind_self}

@@ -6,10 +6,12 @@ use Rattle.ice_base.specs.Text.{lines, numbered, words, begins_with}
 use Rattle.ice_chip.specs.Database.{Parts, same_tile, columns}
 use Rattle.ice_chip.specs.Lookups.{kind_at}
 use Rattle.ice_chip.specs.declared.rows.TileKind.{TileKind}
-use Rattle.ice_bits.specs.Configuration.{Configuration, is_of_kind, blank}
+use Rattle.ice_bits.specs.Configuration.{Configuration}
+use Rattle.ice_bits.specs.Grids.{is_of_kind, blank}
 use Rattle.ice_bits.specs.Rewriting.{with_rows, with_extra}
 use Rattle.ice_asc.specs.Faults.{◌>>=◌}
-use Rattle.ice_asc.specs.Words.{heading_of, row_of_words, tile_of_words, extra_of_words}
+use Rattle.ice_asc.specs.Words.{row_of_words, tile_of_words, extra_of_words}
+use Rattle.ice_asc.specs.Headings.{heading_of}
 use Rattle.ice_asc.specs.declared.fault.AscFault.{AscFault}
 use Rattle.ice_asc.specs.declared.fault.AscFault.TheVariants.{NoDevice, OtherDevice, UnknownTile, TileTwice, BadRow, UnknownWord, Truncated}
 use Rattle.ice_asc.specs.declared.section.Section.{Section}

@@ -1,5 +1,6 @@
 pub mod Faults
 pub mod Words
+pub mod Headings
 pub mod Grammar
 pub mod Text
 pub mod RoundTrip

@@ -2,7 +2,8 @@
 use Rattle.std.specs.Prelude.{◌≡◌, ℕ, ◌<◌, ◌^◌, All, Ok}
 use Rattle.ice_chip.specs.Database.{Parts}
 use Rattle.ice_chip.specs.IsRead.{IsChip}
-use Rattle.ice_bits.specs.Configuration.{Configuration, IsOf}
+use Rattle.ice_bits.specs.Configuration.{Configuration}
+use Rattle.ice_bits.specs.Grids.{IsOf}
 use Rattle.ice_asc.specs.Grammar.{asc_in}
 use Rattle.ice_asc.specs.Text.{asc_text}
 

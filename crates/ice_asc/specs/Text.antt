@@ -1,10 +1,10 @@
 -- The text that is written for the bits of a chip.
 use Rattle.std.specs.Prelude.{ℕ, Bool, List, ◌∷◌, ◌++◌, map, codes, decimal, if◌then◌else◌}
 use Rattle.std.specs.List.{flat_map, range_with_len}
-use Rattle.ice_base.specs.declared.number.BitAt.{BitAt}
-use Rattle.ice_base.specs.Text.{text_of_lines}
+use Rattle.ice_base.specs.declared.bit.BitAt.{BitAt}
+use Rattle.ice_base.specs.Lines.{text_of_lines}
 use Rattle.ice_chip.specs.Database.{Parts}
-use Rattle.ice_chip.specs.Lookups.{tile_of}
+use Rattle.ice_chip.specs.Listings.{tile_of}
 use Rattle.ice_chip.specs.Database.{columns}
 use Rattle.ice_chip.specs.declared.tile.Tile.{Tile}
 use Rattle.ice_bits.specs.Configuration.{Configuration, bits_of}

@@ -1,13 +1,11 @@
 -- What the words of a line write: headings, digits of bits, places of tiles, extra bits.
-use Rattle.std.specs.Prelude.{ℕ, ◌==◌, ◌&&◌, Bool, Option, None, Some, List, [], ◌∷◌, length, nat_lt, option_map, if◌then◌else◌, codes, bytes_eq}
+use Rattle.std.specs.Prelude.{ℕ, ◌==◌, ◌&&◌, Bool, Option, None, Some, List, [], ◌∷◌, length, nat_lt, option_map, if◌then◌else◌, codes}
 use Rattle.std.specs.Option.{option_and_then}
 use Rattle.ice_base.specs.Places.{values_in}
 use Rattle.ice_base.specs.Text.{number_in}
 use Rattle.ice_base.specs.declared.number.TileAt.{TileAt}
 use Rattle.ice_chip.specs.declared.rows.TileKind.{TileKind}
 use Rattle.ice_chip.specs.declared.rows.TileKind.TheVariants.{Io, Logic, RamBottom, RamTop}
-use Rattle.ice_asc.specs.declared.section.Heading.{Heading}
-use Rattle.ice_asc.specs.declared.section.Heading.TheVariants.{Device, Tile, ExtraBit, Symbol, Other}
 
 -- the bits of as many digits as there are columns
 abbrev pub bits_of_digits : ℕ → List ℕ → Option (List Bool)
@@ -42,15 +40,3 @@ heading_of_kind Io = codes ".io_tile"
 heading_of_kind Logic = codes ".logic_tile"
 heading_of_kind RamBottom = codes ".ramb_tile"
 heading_of_kind RamTop = codes ".ramt_tile"
-
--- every heading; the sections of other headings are read over
-abbrev pub heading_of : List ℕ → Heading
-heading_of word =
-    if bytes_eq word (codes ".device") then Device
-    else (if bytes_eq word (codes ".io_tile") then Tile Io
-    else (if bytes_eq word (codes ".logic_tile") then Tile Logic
-    else (if bytes_eq word (codes ".ramb_tile") then Tile RamBottom
-    else (if bytes_eq word (codes ".ramt_tile") then Tile RamTop
-    else (if bytes_eq word (codes ".extra_bit") then ExtraBit
-    else (if bytes_eq word (codes ".sym") then Symbol
-    else Other))))))

@@ -15,7 +15,8 @@ use std::alloc::Global;
 
 // `.device NAME`
 fn device_line(reading: &mut Reading, mut words: WordIter<'_>) -> Result<(), AscFault>
-    ensures { Says (λ _. reading_view reading.new) result (device_says (reading_view reading.old) words.entry) }
+    ensures { Says (λ _. reading_view reading.new) result
+        (device_says (reading_view reading.old) words.entry) }
 {
     let line = reading.line;
     let Some(name) = words.next() else {
@@ -31,7 +32,8 @@ fn device_line(reading: &mut Reading, mut words: WordIter<'_>) -> Result<(), Asc
 
 // Opens a tile, which must be its first heading.
 fn open(alloc: Global, reading: &mut Reading, kind: TileKind, at: TileAt) -> Result<(), AscStop>
-    ensures { Gives (λ _. reading_view reading.new) result (opened (reading_view reading.old) kind at) }
+    ensures { Gives (λ _. reading_view reading.new) result
+        (opened (reading_view reading.old) kind at) }
 {
     let heading = reading.line;
     if !reading.seen.insert(at)? {
@@ -50,7 +52,8 @@ fn tile_line(
     kind: TileKind,
     tile: Option<TileAt>,
 ) -> Result<(), AscStop>
-    ensures { Gives (λ _. reading_view reading.new) result (tile_says chip.now (reading_view reading.old) kind tile) }
+    ensures { Gives (λ _. reading_view reading.new) result
+        (tile_says chip.now (reading_view reading.old) kind tile) }
 {
     let line = reading.line;
     let Some(at) = tile else {
@@ -64,7 +67,8 @@ fn tile_line(
 
 // `.extra_bit B X Y`
 fn extra_line(reading: &mut Reading, words: WordIter<'_>) -> Result<(), AscStop>
-    ensures { Gives (λ _. reading_view reading.new) result (extra_says (reading_view reading.old) (extra_of_words words.entry)) }
+    ensures { Gives (λ _. reading_view reading.new) result
+        (extra_says (reading_view reading.old) (extra_of_words words.entry)) }
 {
     let Some(extra) = extra_of(words) else {
         return Err(AscStop::Fault(AscFault::BadRow { line: reading.line }));
@@ -82,7 +86,8 @@ pub fn heading_line(
     heading: Heading,
     words: WordIter<'_>,
 ) -> Result<(), AscStop>
-    ensures { Gives (λ _. reading_view reading.new) result (heading_says chip.now (reading_view reading.old) heading words.entry) }
+    ensures { Gives (λ _. reading_view reading.new) result
+        (heading_says chip.now (reading_view reading.old) heading words.entry) }
 {
     match heading {
         Heading::Device => Ok(device_line(reading, words)?),

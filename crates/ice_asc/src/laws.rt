@@ -18,8 +18,10 @@ pub fn written_is_read()
 /// another. It says a fault exactly where that is the fault of the first line that has one, or of the end where no line has one. So a
 /// text has bits or a first fault, and never both.
 pub fn says_bits_or_first_fault(chip: &Chip, text: &[u8])
-    ensures bits { (k : Configuration) → (asc_in chip.now text.now ≡ Ok k ↔ HasBits chip.now text.now k) }
-    ensures fault { (f : AscFault) → (asc_in chip.now text.now ≡ Err f ↔ HasFirstFault chip.now text.now f) }
+    ensures bits { (k : Configuration)
+        → (asc_in chip.now text.now ≡ Ok k ↔ HasBits chip.now text.now k) }
+    ensures fault { (f : AscFault)
+        → (asc_in chip.now text.now ≡ Err f ↔ HasFirstFault chip.now text.now f) }
     ensures one { ((k : Configuration) × HasBits chip.now text.now k)
         ⊎ ((f : AscFault) × HasFirstFault chip.now text.now f) }
     ensures never_both { (k : Configuration) → (f : AscFault) → HasBits chip.now text.now k

@@ -21,7 +21,8 @@ fn words_line(
     word: &[u8],
     others: WordIter<'_>,
 ) -> Result<(), AscStop>
-    ensures { Gives (λ _. reading_view reading.new) result (words_say chip.now (reading_view reading.old) (reading_view reading.old).section word.now others.entry) }
+    ensures { Gives (λ _. reading_view reading.new) result (words_say chip.now
+        (reading_view reading.old) (reading_view reading.old).section word.now others.entry) }
 {
     match reading.section {
         Section::Rows { heading, at, kind } => {
@@ -49,7 +50,8 @@ fn take_line(
     reading: &mut Reading,
     line: Line<'_>,
 ) -> Result<(), AscStop>
-    ensures { Gives (λ _. reading_view reading.new) result (line_says chip.now (at_line (reading_view reading.old) line.entry.number) (words line.entry.text.now)) }
+    ensures { Gives (λ _. reading_view reading.new) result (line_says chip.now
+        (at_line (reading_view reading.old) line.entry.number) (words line.entry.text.now)) }
 {
     reading.line = line.number;
     let mut words = words_of(line.text);
@@ -66,7 +68,8 @@ pub fn take_lines(
     reading: &mut Reading,
     lines: LineIter<'_>,
 ) -> Result<(), AscStop>
-    ensures { Gives (λ _. reading_view reading.new) result (lines_say chip.now (reading_view reading.old) lines.entry) }
+    ensures { Gives (λ _. reading_view reading.new) result
+        (lines_say chip.now (reading_view reading.old) lines.entry) }
 {
     for line in lines {
         take_line(alloc, chip, reading, line)?;

@@ -1,6 +1,6 @@
 //! Reading a text of bits.
 ghost use Rattle.std.specs.Prelude.{◌≡◌, IfOk};
-ghost use Rattle.ice_bits.specs.Configuration.{IsOf};
+ghost use Rattle.ice_bits.specs.Grids.{IsOf};
 ghost use Rattle.ice_asc.specs.Answers.{Answers};
 ghost use Rattle.ice_asc.specs.Grammar.{asc_in};
 ghost use Rattle.ice_asc.specs.Views.{Gives};

@@ -40,7 +40,8 @@ pub fn row_line(
     word: &[u8],
     others: WordIter<'_>,
 ) -> Result<(), AscStop>
-    ensures { Gives (λ _. reading_view reading.new) result (row_says (reading_view reading.old) heading at kind word.now others.entry) }
+    ensures { Gives (λ _. reading_view reading.new) result
+        (row_says (reading_view reading.old) heading at kind word.now others.entry) }
 {
     let row = row_of(alloc, reading.line, kind.columns(), word, others)?;
     reading.rows.push(row)?;

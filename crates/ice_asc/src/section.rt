@@ -1,6 +1,6 @@
 //! Headings and sections of a text of bits.
 ghost use Rattle.std.specs.Prelude.{◌≡◌};
-ghost use Rattle.ice_asc.specs.Words.{heading_of};
+ghost use Rattle.ice_asc.specs.Headings.{heading_of};
 
 use ice_base::TileAt;
 use ice_chip::TileKind;

@@ -39,7 +39,8 @@ pub fn extra_of(mut words: WordIter<'_>) -> Option<(u32, u32, u32)>
 
 // The bits that these digits write.
 fn known_bits(alloc: Global, line: u32, digits: &[u8]) -> Result<Vec<bool>, AscStop>
-    ensures { Gives (λ row. row.items) result (known_row line (all_known (map digit_value digits.now))) }
+    ensures { Gives (λ row. row.items) result
+        (known_row line (all_known (map digit_value digits.now))) }
 {
     let mut row = Vec::with_capacity(alloc, digits.len())?;
     for digit in digits {
@@ -59,7 +60,8 @@ pub fn row_of(
     word: &[u8],
     mut others: WordIter<'_>,
 ) -> Result<Vec<bool>, AscStop>
-    ensures { Gives (λ row. row.items) result (known_row line (row_of_words columns word.now others.entry)) }
+    ensures { Gives (λ row. row.items) result
+        (known_row line (row_of_words columns word.now others.entry)) }
 {
     if others.next().is_some() || word.len() != usize::from(columns) {
         return Err(AscStop::Fault(AscFault::BadRow { line }));

@@ -1,9 +1,10 @@
 //! Writing the text of bits.
 ghost use Rattle.std.specs.Prelude.{◌≡◌, ◌≤◌, ◌<◌, ◌^◌, ◌∷◌, [], ◌++◌, map, decimal, option_map, All, Ok, OnOk, OnErr};
 ghost use Rattle.std.specs.List.{flat_map, range_with_len};
-ghost use Rattle.ice_base.specs.Text.{text_of_lines};
-ghost use Rattle.ice_bits.specs.Configuration.{bit_at, bits_of, IsOf};
-ghost use Rattle.ice_chip.specs.Lookups.{tile_of};
+ghost use Rattle.ice_base.specs.Lines.{text_of_lines};
+ghost use Rattle.ice_bits.specs.Configuration.{bit_at, bits_of};
+ghost use Rattle.ice_bits.specs.Grids.{IsOf};
+ghost use Rattle.ice_chip.specs.Listings.{tile_of};
 ghost use Rattle.ice_asc.specs.Grammar.{asc_in};
 ghost use Rattle.ice_asc.specs.Words.{heading_of_kind};
 ghost use Rattle.ice_asc.specs.RoundTrip.{IsSmall};
@@ -59,7 +60,8 @@ fn heading_of_kind(kind: TileKind) -> &'static [u8]
 
 // Writes the heading of a tile.
 fn put_heading(out: &mut Vec<u8>, tile: &Tile) -> Result<(), NoMemory>
-    ensures { OnOk result (out.new.items ≡ out.old.items ++ text_of_lines (tile_heading tile.now ∷ [])) }
+    ensures { OnOk result
+        (out.new.items ≡ out.old.items ++ text_of_lines (tile_heading tile.now ∷ [])) }
 {
     out.extend_from_slice(heading_of_kind(tile.kind))?;
     put_field(out, u32::from(tile.at.x))?;
@@ -86,8 +88,8 @@ fn bit_at(rows: Option<&TileBits>, bit: BitAt) -> bool
 
 // Writes a row of a tile, with so many columns.
 fn put_row(out: &mut Vec<u8>, rows: Option<&TileBits>, columns: u8, row: u8) -> Result<(), NoMemory>
-    ensures { OnOk result (out.new.items
-        ≡ out.old.items ++ text_of_lines (row_line (bit_at (option_map (λ rows. rows.now) rows.entry)) columns row ∷ [])) }
+    ensures { OnOk result (out.new.items ≡ out.old.items ++ text_of_lines
+        (row_line (bit_at (option_map (λ rows. rows.now) rows.entry)) columns row ∷ [])) }
 {
     for col in 0..columns {
         out.push(digit_of_bit(bit_at(rows, BitAt { row, col })))?;
@@ -98,8 +100,9 @@ fn put_row(out: &mut Vec<u8>, rows: Option<&TileBits>, columns: u8, row: u8) -> 
 
 // Writes the sixteen rows of a tile, with so many columns.
 fn put_rows(out: &mut Vec<u8>, rows: Option<&TileBits>, columns: u8) -> Result<(), NoMemory>
-    ensures { OnOk result (out.new.items
-        ≡ out.old.items ++ text_of_lines (map (row_line (bit_at (option_map (λ rows. rows.now) rows.entry)) columns) (range_with_len 0 16))) }
+    ensures { OnOk result (out.new.items ≡ out.old.items
+        ++ text_of_lines (map (row_line (bit_at (option_map (λ rows. rows.now) rows.entry)) columns)
+        (range_with_len 0 16))) }
 {
     for row in 0..ROWS {
         put_row(out, rows, columns, row)?;
@@ -109,7 +112,8 @@ fn put_rows(out: &mut Vec<u8>, rows: Option<&TileBits>, columns: u8) -> Result<(
 
 // Writes the heading of a tile and its rows.
 fn put_tile(out: &mut Vec<u8>, bits: &Bits, tile: &Tile) -> Result<(), NoMemory>
-    ensures { OnOk result (out.new.items ≡ out.old.items ++ text_of_lines (tile_lines bits.now tile.now)) }
+    ensures { OnOk result
+        (out.new.items ≡ out.old.items ++ text_of_lines (tile_lines bits.now tile.now)) }
 {
     put_heading(out, tile)?;
     put_rows(out, bits.tile(tile.at), tile.kind.columns())?;
@@ -118,7 +122,8 @@ fn put_tile(out: &mut Vec<u8>, bits: &Bits, tile: &Tile) -> Result<(), NoMemory>
 
 // Writes the tiles in order.
 fn put_tiles(out: &mut Vec<u8>, bits: &Bits, tiles: &[Tile]) -> Result<(), NoMemory>
-    ensures { OnOk result (out.new.items ≡ out.old.items ++ text_of_lines (flat_map (tile_lines bits.now) tiles.now)) }
+    ensures { OnOk result (out.new.items
+        ≡ out.old.items ++ text_of_lines (flat_map (tile_lines bits.now) tiles.now)) }
 {
     for tile in tiles {
         put_tile(out, bits, tile)?;
@@ -128,7 +133,8 @@ fn put_tiles(out: &mut Vec<u8>, bits: &Bits, tiles: &[Tile]) -> Result<(), NoMem
 
 // Writes an extra bit.
 fn put_extra(out: &mut Vec<u8>, extra: &(u32, u32, u32)) -> Result<(), NoMemory>
-    ensures written { OnOk result (out.new.items ≡ out.old.items ++ text_of_lines (extra_line extra.now ∷ [])) }
+    ensures written { OnOk result
+        (out.new.items ≡ out.old.items ++ text_of_lines (extra_line extra.now ∷ [])) }
     ensures small { OnOk result (IsSmall extra.now) }
 {
     out.extend_from_slice(b".extra_bit")?;
@@ -141,7 +147,8 @@ fn put_extra(out: &mut Vec<u8>, extra: &(u32, u32, u32)) -> Result<(), NoMemory>
 
 // Writes the extra bits in order.
 fn put_extras(out: &mut Vec<u8>, extras: &[(u32, u32, u32)]) -> Result<(), NoMemory>
-    ensures written { OnOk result (out.new.items ≡ out.old.items ++ text_of_lines (map extra_line extras.now)) }
+    ensures written { OnOk result
+        (out.new.items ≡ out.old.items ++ text_of_lines (map extra_line extras.now)) }
     ensures small { OnOk result (All IsSmall extras.now) }
 {
     for extra in extras {
@@ -171,8 +178,8 @@ fn put_text(out: &mut Vec<u8>, bits: &Bits, chip: &Chip) -> Result<(), NoMemory>
 /// Want of memory alone.
 pub fn write_asc(bits: &Bits, chip: &Chip, out: &mut Vec<u8>) -> Result<(), NoMemory>
     ensures written { OnOk result (out.new.items ≡ out.old.items ++ asc_text chip.now bits.now) }
-    ensures read_back { OnOk result (IsOf chip.now bits.now → asc_in chip.now (asc_text chip.now bits.now)
-        ≡ Ok bits.now) }
+    ensures read_back { OnOk result
+        (IsOf chip.now bits.now → asc_in chip.now (asc_text chip.now bits.now) ≡ Ok bits.now) }
     ensures refused { OnErr result (out.new.items ≡ out.old.items) }
 {
     chip.is_chip();

@@ -5,7 +5,8 @@ use Rattle.ice_base.specs.Text.{begins_with}
 use Rattle.ice_base.proofs.Keys.{bytes_same, nat_same}
 use Rattle.ice_chip.specs.declared.rows.TileKind.{TileKind}
 use Rattle.ice_chip.specs.declared.rows.TileKind.TheVariants.{Io, Logic, RamBottom, RamTop}
-use Rattle.ice_asc.specs.Words.{heading_of_kind, heading_of, bits_of_digits}
+use Rattle.ice_asc.specs.Words.{heading_of_kind, bits_of_digits}
+use Rattle.ice_asc.specs.Headings.{heading_of}
 use Rattle.ice_asc.specs.declared.section.Heading.{Heading}
 use Rattle.ice_asc.specs.declared.section.Heading.TheVariants.{Device, Tile, ExtraBit, Symbol, Other}
 use Rattle.ice_asc_laws.specs.NamedTiles.{Begins, begins_extra}

@@ -12,7 +12,8 @@ use Rattle.ice_chip.specs.Lookups.{kind_at}
 use Rattle.ice_chip.specs.declared.rows.TileKind.{TileKind}
 use Rattle.ice_bits.specs.Configuration.{Configuration, rows_at}
 use Rattle.ice_bits.specs.Rewriting.{with_rows}
-use Rattle.ice_asc.specs.Words.{heading_of_kind, heading_of, bits_of_digits, tile_of_words}
+use Rattle.ice_asc.specs.Words.{heading_of_kind, bits_of_digits, tile_of_words}
+use Rattle.ice_asc.specs.Headings.{heading_of}
 use Rattle.ice_asc.specs.declared.section.Section.{Section}
 use Rattle.ice_asc.specs.declared.section.Section.TheVariants.{Nowhere, ReadOver, Rows}
 use Rattle.ice_asc.specs.declared.section.Heading.TheVariants.{Tile}

@@ -12,10 +12,12 @@ use Rattle.ice_chip.specs.Functions.{same_kind}
 use Rattle.ice_chip.specs.Lookups.{kind_at}
 use Rattle.ice_chip.specs.declared.rows.TileKind.{TileKind}
 use Rattle.ice_chip.proofs.SameKinds.{kind_same}
-use Rattle.ice_bits.specs.Configuration.{Configuration, is_of_kind, bit_at, blank}
+use Rattle.ice_bits.specs.Configuration.{Configuration, bit_at}
+use Rattle.ice_bits.specs.Grids.{is_of_kind, blank}
 use Rattle.ice_bits.specs.Rewriting.{with_rows}
 use Rattle.ice_asc.specs.Faults.{◌>>=◌}
-use Rattle.ice_asc.specs.Words.{heading_of, bits_of_digits, tile_of_words, extra_of_words}
+use Rattle.ice_asc.specs.Words.{bits_of_digits, tile_of_words, extra_of_words}
+use Rattle.ice_asc.specs.Headings.{heading_of}
 use Rattle.ice_asc.specs.Grammar.{Reading, start, with_row, known_row, row_says, device_says, opened, tile_says, extra_says, heading_says, words_say, line_says, at_line, lines_say, end_says, asc_in}
 use Rattle.ice_asc.specs.declared.fault.AscFault.{AscFault}
 use Rattle.ice_asc.specs.declared.fault.AscFault.TheVariants as fault

@@ -2,12 +2,13 @@
 use Rattle.std.proofs.Common.{◌≡◌, ℕ, zero, suc, Bool, true, false, cond, Option, Some, is_some, option_map, List, [], ◌∷◌, get_or, replicate, map, refl, sym, ap, ◌∙◌, subst}
 use Rattle.std.specs.Map.{lookup}
 use Rattle.ice_base.specs.declared.number.TileAt.{TileAt}
-use Rattle.ice_base.specs.declared.number.BitAt.{BitAt}
+use Rattle.ice_base.specs.declared.bit.BitAt.{BitAt}
 use Rattle.ice_base.proofs.Keys.{tile_same, tile_self}
 use Rattle.ice_chip.specs.Database.{same_tile, columns, tile_known}
 use Rattle.ice_chip.specs.declared.rows.TileLine.{TileLine}
 use Rattle.ice_chip.specs.declared.rows.TileKind.{TileKind}
-use Rattle.ice_bits.specs.Configuration.{bit_at, blank_rows, blank_tile}
+use Rattle.ice_bits.specs.Configuration.{bit_at}
+use Rattle.ice_bits.specs.Grids.{blank_rows, blank_tile}
 use Rattle.ice_bits.specs.Rewriting.{tiles_with}
 
 abbrev pub Grid : Type 0

@@ -4,7 +4,7 @@ use Rattle.std.specs.Prelude.{◌≡◌, ℕ, ◌+◌, ◌<◌, Bool, true, fals
 use Rattle.std.specs.Option.{option_and_then}
 use Rattle.ice_base.specs.Text.{lines, words}
 use Rattle.ice_base.specs.declared.number.TileAt.{TileAt}
-use Rattle.ice_base.specs.declared.number.BitAt.{BitAt}
+use Rattle.ice_base.specs.declared.bit.BitAt.{BitAt}
 use Rattle.ice_chip.specs.Database.{Parts, columns}
 use Rattle.ice_chip.specs.Lookups.{kind_at}
 use Rattle.ice_chip.specs.declared.rows.TileKind.{TileKind}

@@ -6,7 +6,7 @@ use Rattle.std.proofs.lemmas.Bool.{or_parts, false_from_ne_true}
 use Rattle.std.proofs.lemmas.List.Concat.{flat_map-append}
 use Rattle.indexmap.specs.IndexSet.{insert_key, insert_all}
 use Rattle.ice_chip.specs.Database.{PackageRows, same_pad}
-use Rattle.ice_chip.specs.Lookups.{first_pin}
+use Rattle.ice_chip.specs.Listings.{first_pin}
 use Rattle.ice_chip.specs.Within.{different_pads}
 use Rattle.ice_chip.specs.declared.rows.Pad.{Pad}
 use Rattle.ice_back_laws.specs.Numbers.{pin_names, pad_names}

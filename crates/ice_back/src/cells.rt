@@ -47,7 +47,8 @@ pub(crate) fn made(
 
 /// A cover without inputs that gives a level.
 pub(crate) fn fixed_cell(alloc: Global, level: bool) -> Result<Cell, NoMemory>
-    ensures { IfOk result (λ made. made ≡ cell (Cover (if level then 1 else 0) 0) [] (signal_at (if level then 1 else 0) ∷ [])) }
+    ensures { IfOk result (λ made. made
+        ≡ cell (Cover (if level then 1 else 0) 0) [] (signal_at (if level then 1 else 0) ∷ [])) }
 {
     let number = u8::from(level);
     let kind = CellKind::Cover {
@@ -59,7 +60,9 @@ pub(crate) fn fixed_cell(alloc: Global, level: bool) -> Result<Cell, NoMemory>
 
 // What reads an input of a cell.
 fn input(configured: &ConfiguredChip<'_>, tile: TileAt, cell: u8, number: u8) -> Option<SignalNo>
-    ensures { result ≡ pin_reader configured.now.parts (bits_of configured.now.configuration) configured.now.configuration.extras configured.now.bonded.pads false tile (input_name cell number) }
+    ensures { result ≡ pin_reader configured.now.parts (bits_of configured.now.configuration)
+        configured.now.configuration.extras configured.now.bonded.pads false tile
+        (input_name cell number) }
 {
     configured.pin_reader(false, tile, &input_name(cell, number))
 }
@@ -73,8 +76,11 @@ pub(crate) fn table_cell(
     cell: u8,
 ) -> Result<Cell, NoMemory>
     requires stands { StandsAt configured.now.parts tile cell }
-    requires table { table ≡ cell_table configured.now.parts (bits_of configured.now.configuration) tile cell }
-    ensures { IfOk result (λ made. made ≡ table_cell configured.now.parts (bits_of configured.now.configuration) configured.now.configuration.extras configured.now.bonded.pads (tile, cell)) }
+    requires table { table
+        ≡ cell_table configured.now.parts (bits_of configured.now.configuration) tile cell }
+    ensures { IfOk result (λ made.
+        made ≡ table_cell configured.now.parts (bits_of configured.now.configuration)
+        configured.now.configuration.extras configured.now.bonded.pads (tile, cell)) }
 {
     let ins = [
         input(configured, tile, cell, 0),
@@ -89,7 +95,9 @@ pub(crate) fn table_cell(
 // What reads the carry into a cell.
 fn carry_into(configured: &ConfiguredChip<'_>, tile: TileAt, cell: u8) -> Option<SignalNo>
     requires { StandsAt configured.now.parts tile cell }
-    ensures { result ≡ reader configured.now.parts (bits_of configured.now.configuration) configured.now.configuration.extras configured.now.bonded.pads false (carry_into configured.now.parts tile cell) }
+    ensures { result ≡ reader configured.now.parts (bits_of configured.now.configuration)
+        configured.now.configuration.extras configured.now.bonded.pads false
+        (carry_into configured.now.parts tile cell) }
 {
     if cell == 0 {
         return configured.pin_reader(false, tile, b"carry_in_mux");
@@ -105,7 +113,9 @@ pub(crate) fn carry_cell(
     cell: u8,
 ) -> Result<Cell, NoMemory>
     requires { StandsAt configured.now.parts tile cell }
-    ensures { IfOk result (λ made. made ≡ carry_cell configured.now.parts (bits_of configured.now.configuration) configured.now.configuration.extras configured.now.bonded.pads (tile, cell)) }
+    ensures { IfOk result (λ made.
+        made ≡ carry_cell configured.now.parts (bits_of configured.now.configuration)
+        configured.now.configuration.extras configured.now.bonded.pads (tile, cell)) }
 {
     let ins = [
         input(configured, tile, cell, 1),
@@ -118,7 +128,9 @@ pub(crate) fn carry_cell(
 
 // The flip-flop of a cell as a kind.
 fn flop_kind(configured: &ConfiguredChip<'_>, tile: TileAt, cell: u8) -> CellKind
-    ensures { result ≡ Flop (set_at configured.now.parts (bits_of configured.now.configuration) tile (codes "NegClk") 0) true (reset_of configured.now.parts (bits_of configured.now.configuration) tile cell) }
+    ensures { result ≡ Flop
+        (set_at configured.now.parts (bits_of configured.now.configuration) tile (codes "NegClk") 0)
+        true (reset_of configured.now.parts (bits_of configured.now.configuration) tile cell) }
 {
     let (chip, bits) = (configured.chip(), configured.bits());
     let set = cell_bit(chip, bits, tile, cell, 18);
@@ -133,7 +145,8 @@ fn flop_kind(configured: &ConfiguredChip<'_>, tile: TileAt, cell: u8) -> CellKin
 // What reads the table of a cell.
 fn datum(configured: &ConfiguredChip<'_>, tile: TileAt, cell: u8) -> Option<SignalNo>
     requires { StandsAt configured.now.parts tile cell }
-    ensures { result ≡ reader_of configured.now.parts configured.now.bonded.pads false (table_root configured.now.parts (bits_of configured.now.configuration) tile cell) }
+    ensures { result ≡ reader_of configured.now.parts configured.now.bonded.pads false
+        (table_root configured.now.parts (bits_of configured.now.configuration) tile cell) }
 {
     configured.reader_of(
         false,
@@ -149,7 +162,9 @@ pub(crate) fn flop_cell(
     cell: u8,
 ) -> Result<Cell, NoMemory>
     requires { StandsAt configured.now.parts tile cell }
-    ensures { IfOk result (λ made. made ≡ flop_cell configured.now.parts (bits_of configured.now.configuration) configured.now.configuration.extras configured.now.bonded.pads (tile, cell)) }
+    ensures { IfOk result (λ made.
+        made ≡ flop_cell configured.now.parts (bits_of configured.now.configuration)
+        configured.now.configuration.extras configured.now.bonded.pads (tile, cell)) }
 {
     let ins = [
         configured.pin_reader(false, tile, b"lutff_global/clk"),

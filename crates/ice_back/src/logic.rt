@@ -24,7 +24,8 @@ pub(crate) fn add_ports(netlist: &mut Netlist, count: u32) -> Result<(), NoMemor
     requires none { netlist.old.ports ≡ [] }
     requires named { 2 + 5 * count ≤ length netlist.old.names }
     requires few { count < 2 ^ 28 }
-    ensures { OnOk result (netlist.new ≡ record netlist.old { ports = map pad_port (range_with_len 0 count) }) }
+    ensures { OnOk result
+        (netlist.new ≡ record netlist.old { ports = map pad_port (range_with_len 0 count) }) }
 {
     for number in 0..count {
         netlist.port(SignalNo(2 + 5 * number), Way::Both)?;
@@ -62,9 +63,15 @@ fn add_pad(
     number: u32,
     pad: Pad,
 ) -> Result<(), NoMemory>
-    requires room { HasRoomForCells netlist.old (pad_cell configured.now.parts (bits_of configured.now.configuration) configured.now.configuration.extras configured.now.bonded.pads (number, pad) ∷ []) }
+    requires room { HasRoomForCells netlist.old
+        (pad_cell configured.now.parts (bits_of configured.now.configuration)
+        configured.now.configuration.extras configured.now.bonded.pads (number, pad)
+        ∷ []) }
     requires few { number < 2 ^ 28 }
-    ensures { OnOk result (netlist.new ≡ with_cells netlist.old (pad_cell configured.now.parts (bits_of configured.now.configuration) configured.now.configuration.extras configured.now.bonded.pads (number, pad) ∷ [])) }
+    ensures { OnOk result (netlist.new ≡ with_cells netlist.old
+        (pad_cell configured.now.parts (bits_of configured.now.configuration)
+        configured.now.configuration.extras configured.now.bonded.pads (number, pad)
+        ∷ [])) }
 {
     let cell = pad_cell(alloc, configured, number, pad)?;
     add_cell(netlist, cell)
@@ -80,9 +87,15 @@ pub(crate) fn add_pads(
     netlist: &mut Netlist,
     pads: &[Pad],
 ) -> Result<(), NoMemory>
-    requires room { HasRoomForCells netlist.old (map (pad_cell configured.now.parts (bits_of configured.now.configuration) configured.now.configuration.extras configured.now.bonded.pads) (numbered_pads pads.now)) }
+    requires room { HasRoomForCells netlist.old (map
+        (pad_cell configured.now.parts (bits_of configured.now.configuration)
+        configured.now.configuration.extras configured.now.bonded.pads)
+        (numbered_pads pads.now)) }
     requires few { length pads.now < 2 ^ 28 }
-    ensures { OnOk result (netlist.new ≡ with_cells netlist.old (map (pad_cell configured.now.parts (bits_of configured.now.configuration) configured.now.configuration.extras configured.now.bonded.pads) (numbered_pads pads.now))) }
+    ensures { OnOk result (netlist.new ≡ with_cells netlist.old (map
+        (pad_cell configured.now.parts (bits_of configured.now.configuration)
+        configured.now.configuration.extras configured.now.bonded.pads)
+        (numbered_pads pads.now))) }
 {
     for (number, pad) in pads.iter().enumerate() {
         add_pad(alloc, configured, netlist, number as u32, *pad)?;
@@ -98,9 +111,13 @@ fn add_input(
     number: u32,
     pad: Pad,
 ) -> Result<(), NoMemory>
-    requires room { HasRoomForCells netlist.old (input_cells configured.now.parts (bits_of configured.now.configuration) configured.now.configuration.extras configured.now.bonded.pads (number, pad)) }
+    requires room { HasRoomForCells netlist.old
+        (input_cells configured.now.parts (bits_of configured.now.configuration)
+        configured.now.configuration.extras configured.now.bonded.pads (number, pad)) }
     requires few { number < 2 ^ 28 }
-    ensures { OnOk result (netlist.new ≡ with_cells netlist.old (input_cells configured.now.parts (bits_of configured.now.configuration) configured.now.configuration.extras configured.now.bonded.pads (number, pad))) }
+    ensures { OnOk result (netlist.new ≡ with_cells netlist.old
+        (input_cells configured.now.parts (bits_of configured.now.configuration)
+        configured.now.configuration.extras configured.now.bonded.pads (number, pad))) }
 {
     if !configured.is_registered(pad) {
         return Ok(());
@@ -117,9 +134,13 @@ fn add_output(
     number: u32,
     pad: Pad,
 ) -> Result<(), NoMemory>
-    requires room { HasRoomForCells netlist.old (output_cells configured.now.parts (bits_of configured.now.configuration) configured.now.configuration.extras configured.now.bonded.pads (number, pad)) }
+    requires room { HasRoomForCells netlist.old
+        (output_cells configured.now.parts (bits_of configured.now.configuration)
+        configured.now.configuration.extras configured.now.bonded.pads (number, pad)) }
     requires few { number < 2 ^ 28 }
-    ensures { OnOk result (netlist.new ≡ with_cells netlist.old (output_cells configured.now.parts (bits_of configured.now.configuration) configured.now.configuration.extras configured.now.bonded.pads (number, pad))) }
+    ensures { OnOk result (netlist.new ≡ with_cells netlist.old
+        (output_cells configured.now.parts (bits_of configured.now.configuration)
+        configured.now.configuration.extras configured.now.bonded.pads (number, pad))) }
 {
     if !has_output_register(configured.chip(), configured.bits(), pad) {
         return Ok(());
@@ -136,9 +157,11 @@ fn add_level(
     number: u32,
     pad: Pad,
 ) -> Result<(), NoMemory>
-    requires room { HasRoomForCells netlist.old (level_cells configured.now.parts (bits_of configured.now.configuration) configured.now.configuration.extras (number, pad)) }
+    requires room { HasRoomForCells netlist.old (level_cells configured.now.parts
+        (bits_of configured.now.configuration) configured.now.configuration.extras (number, pad)) }
     requires few { number < 2 ^ 28 }
-    ensures { OnOk result (netlist.new ≡ with_cells netlist.old (level_cells configured.now.parts (bits_of configured.now.configuration) configured.now.configuration.extras (number, pad))) }
+    ensures { OnOk result (netlist.new ≡ with_cells netlist.old (level_cells configured.now.parts
+        (bits_of configured.now.configuration) configured.now.configuration.extras (number, pad))) }
 {
     if !configured.feeds_global(pad) {
         return Ok(());
@@ -155,9 +178,13 @@ fn add_side(
     number: u32,
     pad: Pad,
 ) -> Result<(), NoMemory>
-    requires room { HasRoomForCells netlist.old (side_cells configured.now.parts (bits_of configured.now.configuration) configured.now.configuration.extras configured.now.bonded.pads (number, pad)) }
+    requires room { HasRoomForCells netlist.old
+        (side_cells configured.now.parts (bits_of configured.now.configuration)
+        configured.now.configuration.extras configured.now.bonded.pads (number, pad)) }
     requires few { number < 2 ^ 28 }
-    ensures { OnOk result (netlist.new ≡ with_cells netlist.old (side_cells configured.now.parts (bits_of configured.now.configuration) configured.now.configuration.extras configured.now.bonded.pads (number, pad))) }
+    ensures { OnOk result (netlist.new ≡ with_cells netlist.old
+        (side_cells configured.now.parts (bits_of configured.now.configuration)
+        configured.now.configuration.extras configured.now.bonded.pads (number, pad))) }
 {
     add_input(alloc, configured, netlist, number, pad)?;
     add_output(alloc, configured, netlist, number, pad)?;
@@ -174,9 +201,15 @@ pub(crate) fn add_sides(
     netlist: &mut Netlist,
     pads: &[Pad],
 ) -> Result<(), NoMemory>
-    requires room { HasRoomForCells netlist.old (flat_map (side_cells configured.now.parts (bits_of configured.now.configuration) configured.now.configuration.extras configured.now.bonded.pads) (numbered_pads pads.now)) }
+    requires room { HasRoomForCells netlist.old (flat_map
+        (side_cells configured.now.parts (bits_of configured.now.configuration)
+        configured.now.configuration.extras configured.now.bonded.pads)
+        (numbered_pads pads.now)) }
     requires few { length pads.now < 2 ^ 28 }
-    ensures { OnOk result (netlist.new ≡ with_cells netlist.old (flat_map (side_cells configured.now.parts (bits_of configured.now.configuration) configured.now.configuration.extras configured.now.bonded.pads) (numbered_pads pads.now))) }
+    ensures { OnOk result (netlist.new ≡ with_cells netlist.old (flat_map
+        (side_cells configured.now.parts (bits_of configured.now.configuration)
+        configured.now.configuration.extras configured.now.bonded.pads)
+        (numbered_pads pads.now))) }
 {
     for (number, pad) in pads.iter().enumerate() {
         add_side(alloc, configured, netlist, number as u32, *pad)?;
@@ -192,8 +225,12 @@ fn add_table(
     cell: (TileAt, u8),
 ) -> Result<(), NoMemory>
     requires stands { StandsAt configured.now.parts cell.0 cell.1 }
-    requires room { HasRoomForCells netlist.old (table_cells configured.now.parts (bits_of configured.now.configuration) configured.now.configuration.extras configured.now.bonded.pads cell) }
-    ensures { OnOk result (netlist.new ≡ with_cells netlist.old (table_cells configured.now.parts (bits_of configured.now.configuration) configured.now.configuration.extras configured.now.bonded.pads cell)) }
+    requires room { HasRoomForCells netlist.old
+        (table_cells configured.now.parts (bits_of configured.now.configuration)
+        configured.now.configuration.extras configured.now.bonded.pads cell) }
+    ensures { OnOk result (netlist.new ≡ with_cells netlist.old
+        (table_cells configured.now.parts (bits_of configured.now.configuration)
+        configured.now.configuration.extras configured.now.bonded.pads cell)) }
 {
     let table = cell_table(configured.chip(), configured.bits(), cell.0, cell.1);
     if table == 0 {
@@ -211,8 +248,12 @@ fn add_carry(
     cell: (TileAt, u8),
 ) -> Result<(), NoMemory>
     requires stands { StandsAt configured.now.parts cell.0 cell.1 }
-    requires room { HasRoomForCells netlist.old (carry_cells configured.now.parts (bits_of configured.now.configuration) configured.now.configuration.extras configured.now.bonded.pads cell) }
-    ensures { OnOk result (netlist.new ≡ with_cells netlist.old (carry_cells configured.now.parts (bits_of configured.now.configuration) configured.now.configuration.extras configured.now.bonded.pads cell)) }
+    requires room { HasRoomForCells netlist.old
+        (carry_cells configured.now.parts (bits_of configured.now.configuration)
+        configured.now.configuration.extras configured.now.bonded.pads cell) }
+    ensures { OnOk result (netlist.new ≡ with_cells netlist.old
+        (carry_cells configured.now.parts (bits_of configured.now.configuration)
+        configured.now.configuration.extras configured.now.bonded.pads cell)) }
 {
     if !has_carry(configured.chip(), configured.bits(), cell.0, cell.1) {
         return Ok(());
@@ -229,8 +270,12 @@ fn add_flop(
     cell: (TileAt, u8),
 ) -> Result<(), NoMemory>
     requires stands { StandsAt configured.now.parts cell.0 cell.1 }
-    requires room { HasRoomForCells netlist.old (flop_cells configured.now.parts (bits_of configured.now.configuration) configured.now.configuration.extras configured.now.bonded.pads cell) }
-    ensures { OnOk result (netlist.new ≡ with_cells netlist.old (flop_cells configured.now.parts (bits_of configured.now.configuration) configured.now.configuration.extras configured.now.bonded.pads cell)) }
+    requires room { HasRoomForCells netlist.old
+        (flop_cells configured.now.parts (bits_of configured.now.configuration)
+        configured.now.configuration.extras configured.now.bonded.pads cell) }
+    ensures { OnOk result (netlist.new ≡ with_cells netlist.old
+        (flop_cells configured.now.parts (bits_of configured.now.configuration)
+        configured.now.configuration.extras configured.now.bonded.pads cell)) }
 {
     if !has_flop(configured.chip(), configured.bits(), cell.0, cell.1) {
         return Ok(());
@@ -247,8 +292,12 @@ fn add_logic(
     cell: (TileAt, u8),
 ) -> Result<(), NoMemory>
     requires stands { StandsAt configured.now.parts cell.0 cell.1 }
-    requires room { HasRoomForCells netlist.old (logic_cells configured.now.parts (bits_of configured.now.configuration) configured.now.configuration.extras configured.now.bonded.pads cell) }
-    ensures { OnOk result (netlist.new ≡ with_cells netlist.old (logic_cells configured.now.parts (bits_of configured.now.configuration) configured.now.configuration.extras configured.now.bonded.pads cell)) }
+    requires room { HasRoomForCells netlist.old
+        (logic_cells configured.now.parts (bits_of configured.now.configuration)
+        configured.now.configuration.extras configured.now.bonded.pads cell) }
+    ensures { OnOk result (netlist.new ≡ with_cells netlist.old
+        (logic_cells configured.now.parts (bits_of configured.now.configuration)
+        configured.now.configuration.extras configured.now.bonded.pads cell)) }
 {
     add_table(alloc, configured, netlist, cell)?;
     add_carry(alloc, configured, netlist, cell)?;
@@ -266,8 +315,14 @@ pub(crate) fn add_all_logic(
     cells: &[(TileAt, u8)],
 ) -> Result<(), NoMemory>
     requires stand { StandAt configured.now.parts cells.now }
-    requires room { HasRoomForCells netlist.old (flat_map (logic_cells configured.now.parts (bits_of configured.now.configuration) configured.now.configuration.extras configured.now.bonded.pads) cells.now) }
-    ensures { OnOk result (netlist.new ≡ with_cells netlist.old (flat_map (logic_cells configured.now.parts (bits_of configured.now.configuration) configured.now.configuration.extras configured.now.bonded.pads) cells.now)) }
+    requires room { HasRoomForCells netlist.old (flat_map
+        (logic_cells configured.now.parts (bits_of configured.now.configuration)
+        configured.now.configuration.extras configured.now.bonded.pads)
+        cells.now) }
+    ensures { OnOk result (netlist.new ≡ with_cells netlist.old (flat_map
+        (logic_cells configured.now.parts (bits_of configured.now.configuration)
+        configured.now.configuration.extras configured.now.bonded.pads)
+        cells.now)) }
 {
     for cell in cells {
         add_logic(alloc, configured, netlist, *cell)?;

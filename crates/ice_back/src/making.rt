@@ -30,7 +30,10 @@ fn add_signals(
 ) -> Result<(), NoMemory>
     requires cells { all_cells.now ≡ cells configured.now.parts }
     requires empty { netlist.old ≡ empty_netlist }
-    ensures { OnOk result (netlist.new ≡ record (back_netlist configured.now.parts (bits_of configured.now.configuration) configured.now.configuration.extras configured.now.bonded) { cells = [] }) }
+    ensures { OnOk result (netlist.new
+        ≡ record (back_netlist configured.now.parts (bits_of configured.now.configuration) configured.now.configuration.extras configured.now.bonded) {
+          cells = [];
+        }) }
 {
     let pads = configured.pads();
     add_name(netlist, b"zero")?;
@@ -49,8 +52,13 @@ fn add_cells(
     all_cells: &[(TileAt, u8)],
 ) -> Result<(), NoMemory>
     requires cells { all_cells.now ≡ cells configured.now.parts }
-    requires named { netlist.old ≡ record (back_netlist configured.now.parts (bits_of configured.now.configuration) configured.now.configuration.extras configured.now.bonded) { cells = [] } }
-    ensures { OnOk result (netlist.new ≡ back_netlist configured.now.parts (bits_of configured.now.configuration) configured.now.configuration.extras configured.now.bonded) }
+    requires named { netlist.old
+        ≡ record (back_netlist configured.now.parts (bits_of configured.now.configuration) configured.now.configuration.extras configured.now.bonded) {
+          cells = [];
+        } }
+    ensures { OnOk result
+        (netlist.new ≡ back_netlist configured.now.parts (bits_of configured.now.configuration)
+        configured.now.configuration.extras configured.now.bonded) }
 {
     let pads = configured.pads();
     add_fixed(alloc, netlist)?;
@@ -69,7 +77,9 @@ fn add_all(
 ) -> Result<(), NoMemory>
     requires cells { all_cells.now ≡ cells configured.now.parts }
     requires empty { netlist.old ≡ empty_netlist }
-    ensures { OnOk result (netlist.new ≡ back_netlist configured.now.parts (bits_of configured.now.configuration) configured.now.configuration.extras configured.now.bonded) }
+    ensures { OnOk result
+        (netlist.new ≡ back_netlist configured.now.parts (bits_of configured.now.configuration)
+        configured.now.configuration.extras configured.now.bonded) }
 {
     add_signals(alloc, configured, netlist, all_cells)?;
     add_cells(alloc, configured, netlist, all_cells)
@@ -82,7 +92,9 @@ fn filled(
     all_cells: &[(TileAt, u8)],
 ) -> Result<Netlist, NoMemory>
     requires { all_cells.now ≡ cells configured.now.parts }
-    ensures { IfOk result (λ netlist. netlist ≡ back_netlist configured.now.parts (bits_of configured.now.configuration) configured.now.configuration.extras configured.now.bonded) }
+    ensures { IfOk result (λ netlist.
+        netlist ≡ back_netlist configured.now.parts (bits_of configured.now.configuration)
+        configured.now.configuration.extras configured.now.bonded) }
 {
     let mut netlist = Netlist::new(alloc);
     add_all(alloc, configured, &mut netlist, all_cells).and(Ok(netlist))
@@ -102,9 +114,13 @@ pub fn back(
 ) -> Result<Netlist, NoMemory>
     requires circuit { IsCircuitOf chip.now circuit.now.configuration circuit.now }
     requires listed { Has chip.now.packages (package_view «package».now) }
-    ensures netlist { IfOk result (λ netlist. netlist ≡ back_netlist chip.now (bits_of circuit.now.configuration) circuit.now.configuration.extras (package_view «package».now)) }
+    ensures netlist { IfOk result (λ netlist.
+        netlist ≡ back_netlist chip.now (bits_of circuit.now.configuration)
+        circuit.now.configuration.extras (package_view «package».now)) }
     ensures sound { IfOk result (λ netlist. IsSound netlist) }
-    ensures shows { IfOk result (λ netlist. (levels : List (List Bool)) → nets.shows netlist levels ≡ bits_show chip.now (bits_of circuit.now.configuration) circuit.now.configuration.extras «package».now.pads.keys «package».now.pads.keys levels) }
+    ensures shows { IfOk result (λ netlist. (levels : List (List Bool))
+        → nets.shows netlist levels ≡ bits_show chip.now (bits_of circuit.now.configuration)
+        circuit.now.configuration.extras «package».now.pads.keys «package».now.pads.keys levels) }
 {
     netlist_is_sound();
     netlist_shows_what_bits_show();

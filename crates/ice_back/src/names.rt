@@ -50,7 +50,8 @@ fn add_kept_name(
     ending: &[u8],
 ) -> Result<(), NoMemory>
     requires { HasRoomForNames netlist.old ((codes "h_" ++ pin.now ++ ending.now) ∷ []) }
-    ensures { OnOk result (netlist.new ≡ with_names netlist.old ((codes "h_" ++ pin.now ++ ending.now) ∷ [])) }
+    ensures { OnOk result
+        (netlist.new ≡ with_names netlist.old ((codes "h_" ++ pin.now ++ ending.now) ∷ [])) }
 {
     let mut name = Vec::new(alloc);
     name.extend_from_slice(b"h_")?;
@@ -81,7 +82,8 @@ fn add_new_names(
     pad: Pad,
 ) -> Result<(), NoMemory>
     requires { HasRoomForNames netlist.old (new_names seen.old.keys (pin.now, pad)) }
-    ensures netlist { OnOk result (netlist.new ≡ with_names netlist.old (new_names seen.old.keys (pin.now, pad))) }
+    ensures netlist { OnOk result
+        (netlist.new ≡ with_names netlist.old (new_names seen.old.keys (pin.now, pad))) }
     ensures seen { OnOk result (seen.new.keys ≡ insert_key same_pad seen.old.keys pad) }
 {
     if seen.insert(pad)? {
@@ -99,9 +101,12 @@ pub(crate) fn add_pad_names(
     netlist: &mut Netlist,
     package: &Package,
 ) -> Result<(), NoMemory>
-    requires room { HasRoomForNames netlist.old (flat_map (pad_names (package_view «package».now)) (package_view «package».now).pads) }
-    requires pads { (package_view «package».now).pads ≡ different_pads (package_view «package».now).pins }
-    ensures { OnOk result (netlist.new ≡ with_names netlist.old (flat_map (pad_names (package_view «package».now)) (package_view «package».now).pads)) }
+    requires room { HasRoomForNames netlist.old
+        (flat_map (pad_names (package_view «package».now)) (package_view «package».now).pads) }
+    requires pads { (package_view «package».now).pads
+        ≡ different_pads (package_view «package».now).pins }
+    ensures { OnOk result (netlist.new ≡ with_names netlist.old
+        (flat_map (pad_names (package_view «package».now)) (package_view «package».now).pads)) }
 {
     let mut seen = IndexSet::new(alloc);
     for (pin, pad) in package.pins.iter() {
@@ -122,7 +127,8 @@ fn put_number(name: &mut Vec<u8>, number: u64) -> Result<(), NoMemory>
 
 // Writes the column and the row of a tile.
 fn put_tile(name: &mut Vec<u8>, tile: TileAt) -> Result<(), NoMemory>
-    ensures { OnOk result (name.new.items ≡ name.old.items ++ codes "x" ++ decimal tile.x ++ codes "_y" ++ decimal tile.y) }
+    ensures { OnOk result (name.new.items
+        ≡ name.old.items ++ codes "x" ++ decimal tile.x ++ codes "_y" ++ decimal tile.y) }
 {
     name.extend_from_slice(b"x")?;
     put_number(name, u64::from(tile.x))?;

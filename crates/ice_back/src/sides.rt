@@ -40,7 +40,9 @@ fn buffer_type(configured: &ConfiguredChip<'_>, pad: Pad) -> u8
 // What the pad of a number gives: to its register, if the netlist has it.
 fn given(configured: &ConfiguredChip<'_>, number: u32, pad: Pad) -> SignalNo
     requires { number < 2 ^ 28 }
-    ensures { result ≡ signal (if is_registered configured.now.parts (bits_of configured.now.configuration) pad then given_number number else input_number number) }
+    ensures { result
+        ≡ signal (if is_registered configured.now.parts (bits_of configured.now.configuration) pad
+        then given_number number else input_number number) }
 {
     if configured.is_registered(pad) {
         return SignalNo(4 + 5 * number);
@@ -50,7 +52,9 @@ fn given(configured: &ConfiguredChip<'_>, number: u32, pad: Pad) -> SignalNo
 
 // What reads the level at the D_OUT_0 of a pad.
 fn output_reader(configured: &ConfiguredChip<'_>, pad: Pad) -> Option<SignalNo>
-    ensures { result ≡ pin_reader configured.now.parts (bits_of configured.now.configuration) configured.now.configuration.extras configured.now.bonded.pads false pad.tile (pad_output_name pad.pio) }
+    ensures { result ≡ pin_reader configured.now.parts (bits_of configured.now.configuration)
+        configured.now.configuration.extras configured.now.bonded.pads false pad.tile
+        (pad_output_name pad.pio) }
 {
     configured.pin_reader(false, pad.tile, &pad_output_name(pad.pio))
 }
@@ -58,7 +62,8 @@ fn output_reader(configured: &ConfiguredChip<'_>, pad: Pad) -> Option<SignalNo>
 // What the pad of a number is driven with.
 fn driven_reader(configured: &ConfiguredChip<'_>, number: u32, pad: Pad) -> Option<SignalNo>
     requires { number < 2 ^ 28 }
-    ensures { result ≡ driven_reader configured.now.parts (bits_of configured.now.configuration) configured.now.configuration.extras configured.now.bonded.pads (number, pad) }
+    ensures { result ≡ driven_reader configured.now.parts (bits_of configured.now.configuration)
+        configured.now.configuration.extras configured.now.bonded.pads (number, pad) }
 {
     if has_output_register(configured.chip(), configured.bits(), pad) {
         return Some(SignalNo(5 + 5 * number));
@@ -74,7 +79,9 @@ pub(crate) fn pad_cell(
     pad: Pad,
 ) -> Result<Cell, NoMemory>
     requires { number < 2 ^ 28 }
-    ensures { IfOk result (λ made. made ≡ pad_cell configured.now.parts (bits_of configured.now.configuration) configured.now.configuration.extras configured.now.bonded.pads (number, pad)) }
+    ensures { IfOk result (λ made.
+        made ≡ pad_cell configured.now.parts (bits_of configured.now.configuration)
+        configured.now.configuration.extras configured.now.bonded.pads (number, pad)) }
 {
     let kind = CellKind::PadCell {
         pin_type: buffer_type(configured, pad),
@@ -102,7 +109,9 @@ fn register_cell(
     datum: Option<SignalNo>,
     output: u32,
 ) -> Result<Cell, NoMemory>
-    ensures { IfOk result (λ made. made ≡ register_cell configured.now.parts (bits_of configured.now.configuration) configured.now.configuration.extras configured.now.bonded.pads tile clock_name.now datum output) }
+    ensures { IfOk result (λ made. made ≡ register_cell configured.now.parts
+        (bits_of configured.now.configuration) configured.now.configuration.extras
+        configured.now.bonded.pads tile clock_name.now datum output) }
 {
     let kind = CellKind::Flop {
         falling: false,
@@ -125,7 +134,9 @@ pub(crate) fn input_cell(
     pad: Pad,
 ) -> Result<Cell, NoMemory>
     requires { number < 2 ^ 28 }
-    ensures { IfOk result (λ made. made ≡ input_cell configured.now.parts (bits_of configured.now.configuration) configured.now.configuration.extras configured.now.bonded.pads (number, pad)) }
+    ensures { IfOk result (λ made.
+        made ≡ input_cell configured.now.parts (bits_of configured.now.configuration)
+        configured.now.configuration.extras configured.now.bonded.pads (number, pad)) }
 {
     let datum = Some(SignalNo(4 + 5 * number));
     register_cell(
@@ -146,7 +157,9 @@ pub(crate) fn output_cell(
     pad: Pad,
 ) -> Result<Cell, NoMemory>
     requires { number < 2 ^ 28 }
-    ensures { IfOk result (λ made. made ≡ output_cell configured.now.parts (bits_of configured.now.configuration) configured.now.configuration.extras configured.now.bonded.pads (number, pad)) }
+    ensures { IfOk result (λ made.
+        made ≡ output_cell configured.now.parts (bits_of configured.now.configuration)
+        configured.now.configuration.extras configured.now.bonded.pads (number, pad)) }
 {
     let datum = output_reader(configured, pad);
     register_cell(

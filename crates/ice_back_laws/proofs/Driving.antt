@@ -21,7 +21,8 @@ use Rattle.ice_net.specs.declared.cell.Cell.{Cell}
 use Rattle.ice_net.specs.declared.port.Port.{Port}
 use Rattle.ice_net.specs.Drives.{output_type, enabled_type}
 use Rattle.ice_net.specs.Drivers.{place_of, pin_of, driver_of, is_there}
-use Rattle.ice_net.specs.NetlistData.{NetlistData, port_at, way_at}
+use Rattle.ice_net.specs.NetlistData.{NetlistData, port_at}
+use Rattle.ice_net.specs.Ways.{way_at}
 use Rattle.ice_decode.specs.declared.point.Point.{Point}
 use Rattle.ice_decode.specs.Reads.{at_pin, cell_inputs, carry_inputs}
 use Rattle.ice_decode.specs.Refusals.{IsFaultless}

@@ -1,5 +1,4 @@
 pub mod RootLevels
-pub mod CellRoles
 pub mod PadNumbers
 pub mod Heard
 pub mod Ranks

@@ -9,7 +9,8 @@ use Rattle.std.proofs.lemmas.Bool.{and_parts}
 use Rattle.std.proofs.lemmas.Fmt.{digits_decimal, decimal_injective}
 use Rattle.std.proofs.lemmas.Option.{none-some, same_Some}
 use Rattle.std.proofs.lemmas.Str.Parse.{IsNumeralModel, numerals_by_fold, tells_all_ascii_digits}
-use Rattle.ice_base.specs.Text.{with_digits, IsWord, begins_with}
+use Rattle.ice_base.specs.Text.{with_digits, begins_with}
+use Rattle.ice_base.specs.Lines.{IsWord}
 use Rattle.ice_base.specs.declared.number.TileAt.{TileAt}
 use Rattle.ice_base.proofs.Keys.{bytes_same, bytes_self}
 use Rattle.ice_base.proofs.TextLaws.{decimal_is_word, GoesOn}
@@ -19,7 +20,7 @@ use Rattle.ice_base_values.proofs.Places.{At_same}
 use Rattle.ice_base_values.proofs.Once.{once_append, distinct_from_once}
 use Rattle.ice_chip.specs.Database.{Parts, PackageRows, same_pad}
 use Rattle.ice_chip.specs.IsRead.{IsRead}
-use Rattle.ice_chip.specs.Lookups.{first_pin}
+use Rattle.ice_chip.specs.Listings.{first_pin}
 use Rattle.ice_chip.specs.Within.{IsPackage}
 use Rattle.ice_chip.specs.declared.rows.Pad.{Pad}
 use Rattle.ice_decode.specs.Cells.{cells, logic_tiles}

@@ -19,7 +19,7 @@ use Rattle.ice_chip.specs.declared.rows.Pad.{Pad}
 use Rattle.ice_chip.specs.declared.rows.TileKind.{TileKind}
 use Rattle.ice_chip.specs.declared.rows.TileKind.TheVariants.{Io, Logic, RamBottom, RamTop}
 use Rattle.ice_bits.specs.Configuration.{Bits}
-use Rattle.ice_net.specs.Drives.{is_type}
+use Rattle.ice_net.specs.Uses.{is_type}
 use Rattle.ice_decode.specs.Faults.{is_output_part, has_wrong_type}
 use Rattle.ice_decode.specs.Cells.{tile_place}
 use Rattle.ice_decode.specs.Pads.{pads_in, is_io_tile, io_tiles, pads, pin_type, has_output_register}

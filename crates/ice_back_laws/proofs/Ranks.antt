@@ -34,12 +34,11 @@ use Rattle.ice_decode.specs.Refusals.{IsFaultless}
 use Rattle.ice_decode.proofs.PointPlaces.{StandsAs, wire_at, point_cases, points_long}
 use Rattle.ice_decode.proofs.ReadPoints.{read_there}
 pub use Rattle.ice_decode.proofs.ReadPoints.{named_below}
-use Rattle.ice_decode.proofs.RolePlaces.{IsCell, logic_there}
+use Rattle.ice_decode.proofs.RolePlaces.{IsCell, IsIoPad, IsOfCell, role_of_cell, logic_there}
 use Rattle.ice_decode.proofs.Valued.{counted, faultless_valued}
 use Rattle.ice_decode.proofs.Walks.{all_valued}
 use Rattle.ice_back_laws.specs.Roots.{LevelRoot, Fixed, Input, Taken, Given, Kept, Level, Table, Register, Sum, is_heard, is_registered, is_feeder, feeds_global, cell_table, table_root, carry_root, pad_number, pad_at, bonded_root, enabled_root, fed_root, driven_passes, driven_root, roots_of, root_of}
 pub use Rattle.ice_back_laws.specs.Roots.{StandsAt, IsThere}
-use Rattle.ice_back_laws.proofs.CellRoles.{IsIoPad, IsOfCell, role_of_cell}
 use Rattle.ice_back_laws.proofs.Heard.{IsHeardAs, IsHeard, row_heard, pin_heard}
 use Rattle.ice_back_laws.proofs.PadNumbers.{pad_self, number_at, number_within}
 use Rattle.ice_back_laws.proofs.RootLevels.{passed_read, root_made}

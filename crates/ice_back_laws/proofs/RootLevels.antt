@@ -2,7 +2,8 @@
 use Rattle.std.proofs.Common.{◌≡◌, ℕ, ◌+◌, ◌*◌, ◌<◌, ◌==◌, ◌&&◌, zero, suc, Bool, true, false, Option, None, Some, List, [], ◌∷◌, map, get_or, slice_index_or, unwrap_or, is_some, if◌then◌else◌, refl, sym, ap, ◌∙◌, arith, rules, tests}
 use Rattle.std.proofs.lemmas.Option.{same_Some}
 use Rattle.ice_base.specs.declared.number.TileAt.{TileAt}
-use Rattle.ice_base_values.specs.System.{System, value, MeetsEquation, present, reading}
+use Rattle.ice_base_values.specs.System.{System, value, present, reading}
+use Rattle.ice_base_values.specs.Simulations.{MeetsEquation}
 use Rattle.ice_base_values.specs.Order.{At, Has, Descends}
 use Rattle.ice_base_values.proofs.Values.{value_suc, value_step, value_there}
 use Rattle.ice_base_values.proofs.Gaps.{local_gapped}
@@ -19,7 +20,7 @@ use Rattle.ice_decode.specs.declared.role.Role.{Role}
 use Rattle.ice_decode.specs.declared.role.Role.TheVariants.{Plain, Output, LookUp, CarryOut, PadInput, Global, CarryIn, ClockEnable}
 use Rattle.ice_decode.specs.Cells.{has_carry, has_flop, table_entry, looked_up}
 use Rattle.ice_decode.specs.Drivers.{driver, role_of}
-use Rattle.ice_decode.specs.Faults.{IsOrderOf}
+use Rattle.ice_decode.specs.Loops.{IsOrderOf}
 use Rattle.ice_decode.specs.Direct.{takes_pad}
 use Rattle.ice_decode.specs.Meaning.{passes, global_gives, driven_makes, makes_at, chip_system, point_level, table_level}
 use Rattle.ice_decode.specs.Pads.{level_of, is_enabled, pad_gives, kept_at, input_kept, has_input_register}
@@ -28,7 +29,7 @@ use Rattle.ice_decode.proofs.Valued.{valued, place_below}
 use Rattle.ice_back_laws.specs.Law.{root_level, AreQuiet, PointsHaveTheirRootsLevels}
 use Rattle.ice_back_laws.specs.Roots.{LevelRoot, Fixed, Input, Taken, Level, Table, Register, Sum, cell_table, table_root, carry_root, pad_number, bonded_root, enabled_root, fed_root, driven_passes, point_passes, driven_root, point_root, roots_of, root_of}
 use Rattle.ice_back_laws.proofs.PadNumbers.{number_at, level_at_number}
-use Rattle.ice_back_laws.proofs.CellRoles.{IsOfCell, role_of_cell}
+use Rattle.ice_decode.proofs.RolePlaces.{IsOfCell, role_of_cell}
 
 -- ---- values meet their equations
 meets : {P A : Type 0} (s : System P A) (v : P → A) (f : ℕ) (p : P) → value s f p ≡ Some (v p) → ((q : P) → Has (s.depends p) q → value s f q ≡ Some (v q)) → MeetsEquation s v p

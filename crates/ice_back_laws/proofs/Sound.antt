@@ -21,7 +21,8 @@ use Rattle.ice_chip_laws.specs.Laws.{LookupsAreLawful}
 use Rattle.ice_chip_laws.specs.Names.{HasNames}
 use Rattle.ice_bits.specs.Configuration.{Bits}
 use Rattle.ice_net.specs.declared.cell.Cell.{Cell}
-use Rattle.ice_net.specs.Drives.{input_type, output_type, is_type}
+use Rattle.ice_net.specs.Drives.{output_type}
+use Rattle.ice_net.specs.Uses.{input_type, is_type}
 use Rattle.ice_net.specs.Formed.{IsBelow, IsPresent, IsFormedCell, IsPortBelow, IsFormed}
 use Rattle.ice_net.specs.Kinds.{reset_names}
 use Rattle.ice_net.specs.NetlistData.{NetlistData}

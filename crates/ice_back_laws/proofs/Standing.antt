@@ -105,8 +105,8 @@ module _ (parts : Parts) (bits : Bits) (extras : List (ℕ × ℕ × ℕ)) (pack
   abbrev pub netlist : NetlistData
   netlist = back_netlist parts bits extras package_rows
 
-  abbrev pub Stands : LevelRoot → Type 0
-  Stands r = IsThere parts bits extras bonded r
+  abbrev pub RootStands : LevelRoot → Type 0
+  RootStands r = IsThere parts bits extras bonded r
 
   -- the pad of a number, with the number
   abbrev pub numbered : ℕ → ℕ × Pad
@@ -136,7 +136,7 @@ module _ (parts : Parts) (bits : Bits) (extras : List (ℕ × ℕ × ℕ)) (pack
 
   -- ---- each cell makes a root's level
   abbrev IsMadeFor : Cell → Type 0
-  IsMadeFor c = (r : LevelRoot) × Stands r × (c ≡ cell_of r)
+  IsMadeFor c = (r : LevelRoot) × RootStands r × (c ≡ cell_of r)
 
   fixed_made : (i : ℕ) (c : Cell) → At fixed_cells i c → IsMadeFor c
   fixed_made zero c at = (Fixed false, tt, sym (same_Some (cell_of (Fixed false)) c at))
@@ -254,7 +254,7 @@ module _ (parts : Parts) (bits : Bits) (extras : List (ℕ × ℕ × ℕ)) (pack
       → pad_cell parts bits extras bonded (numbered k) ≡ buffer_cell parts bits extras bonded (numbered k) (if b then given_number k else input_number k)
   buffer_is k b e = ap (λ c. buffer_cell parts bits extras bonded (numbered k) (if c then given_number k else input_number k)) e
 
-  pub root_stands : (r : LevelRoot) → Stands r → Has netlist.cells (cell_of r)
+  pub root_stands : (r : LevelRoot) → RootStands r → Has netlist.cells (cell_of r)
   root_stands (Fixed false) there = (0, refl)
   root_stands (Fixed true) there = (1, refl)
   root_stands (Input k) there = subst (Has netlist.cells) (buffer_is k false there.1) (buffer_there k there.0)
@@ -340,7 +340,7 @@ module _ (parts : Parts) (bits : Bits) (extras : List (ℕ × ℕ × ℕ)) (pack
       not_less : (a b n : ℕ) → n ≡ a + b → nat_lt n a ≡ false
       not_less a b n e = search (rules, tests, arith)
 
-  root_told : (r : LevelRoot) → Stands r → told (root_number parts bonded r) ≡ r
+  root_told : (r : LevelRoot) → RootStands r → told (root_number parts bonded r) ≡ r
   root_told (Fixed false) there = refl
   root_told (Fixed true) there = refl
   root_told (Input k) there = pad_told k 1 (input_number k) there.0 (omega arith) (omega arith) ∙ ap (λ b. if b then Taken k else Input k) there.1
@@ -352,7 +352,7 @@ module _ (parts : Parts) (bits : Bits) (extras : List (ℕ × ℕ × ℕ)) (pack
   root_told (Register t i) there = cell_told t i 1 there.0 (omega arith)
   root_told (Sum t i) there = cell_told t i 2 there.0 (omega arith)
 
-  same_root : (r q : LevelRoot) → Stands r → Stands q → root_number parts bonded r ≡ root_number parts bonded q → r ≡ q
+  same_root : (r q : LevelRoot) → RootStands r → RootStands q → root_number parts bonded r ≡ root_number parts bonded q → r ≡ q
   same_root r q there here e = sym (root_told r there) ∙ ap told e ∙ root_told q here
 
   pub output_is : (r : LevelRoot) → output_of (cell_of r) ≡ Some (signal (root_number parts bonded r))
@@ -380,7 +380,7 @@ module _ (parts : Parts) (bits : Bits) (extras : List (ℕ × ℕ × ℕ)) (pack
   cell_above : (t : TileAt) (i : ℕ) → StandsAt parts t i → 2 + 5 * length bonded ≤ cell_number parts bonded t i
   cell_above t i (k, e, lt) = omega (arith, number_is t i k e)
 
-  not_port : (r : LevelRoot) → Stands r → (k : ℕ) → k < length bonded → port_number k ≡ root_number parts bonded r → ⊥
+  not_port : (r : LevelRoot) → RootStands r → (k : ℕ) → k < length bonded → port_number k ≡ root_number parts bonded r → ⊥
   not_port (Fixed false) there k lt e = omega (arith, e)
   not_port (Fixed true) there k lt e = omega (arith, e)
   not_port (Input j) there k lt e = omega (arith, e)
@@ -398,7 +398,7 @@ module _ (parts : Parts) (bits : Bits) (extras : List (ℕ × ℕ × ℕ)) (pack
       (λ p has e. let is = port_made p has in never is.0 is.1 (same_number (port_number is.0) s (ap (pad_of netlist.cells) (sym is.2) ∙ e)))
 
   -- ---- what drives the signal of a root
-  pub root_driven : (r : LevelRoot) → Stands r → (i : ℕ) × (driver_of netlist (root_number parts bonded r) ≡ drivers.TheVariants.Output i) × At netlist.cells i (cell_of r)
+  pub root_driven : (r : LevelRoot) → RootStands r → (i : ℕ) × (driver_of netlist (root_number parts bonded r) ≡ drivers.TheVariants.Output i) × At netlist.cells i (cell_of r)
   root_driven r there =
       let s = root_number parts bonded r in
       let found = place_one output_of s (cell_of r) netlist.cells (root_stands r there) (output_is r)
@@ -421,7 +421,7 @@ module _ (parts : Parts) (bits : Bits) (extras : List (ℕ × ℕ × ℕ)) (pack
       let inside = At_within (logic_tiles parts) k t (tile_at t (logic_tiles parts) k e) in
       omega (arith, number_is t i k e, names_long, inside, lt)
 
-  pub root_below : (r : LevelRoot) → Stands r → root_number parts bonded r < length netlist.names
+  pub root_below : (r : LevelRoot) → RootStands r → root_number parts bonded r < length netlist.names
   root_below (Fixed false) there = omega (arith, names_long)
   root_below (Fixed true) there = omega (arith, names_long)
   root_below (Input k) there = let lt = there.0 in omega (arith, names_long, lt)
@@ -449,7 +449,7 @@ module _ (parts : Parts) (bits : Bits) (extras : List (ℕ × ℕ × ℕ)) (pack
   same_port j k e = let same = same_number (port_number j) (port_number k) e in omega (arith, same)
 
   -- a cell at the pin of a port is the SB_IO of the port's pad
-  at_port : (k : ℕ) (r : LevelRoot) → Stands r → pin_of (cell_of r) ≡ Some (signal (port_number k)) → cell_of r ≡ pad_cell parts bits extras bonded (numbered k)
+  at_port : (k : ℕ) (r : LevelRoot) → RootStands r → pin_of (cell_of r) ≡ Some (signal (port_number k)) → cell_of r ≡ pad_cell parts bits extras bonded (numbered k)
   at_port k (Fixed false) there e = cc e
   at_port k (Fixed true) there e = cc e
   at_port k (Input j) there e = sym (buffer_is j false there.1) ∙ ap (λ n. pad_cell parts bits extras bonded (numbered n)) (same_port j k e)

@@ -15,7 +15,7 @@ use Rattle.ice_net.specs.declared.kind.CellKind.TheVariants.{Lut, Cover, Flop, P
 use Rattle.ice_net.specs.declared.kind.Reset.TheVariants as reset
 use Rattle.ice_net.specs.declared.port.Port.{Port}
 use Rattle.ice_net.specs.declared.port.Way.TheVariants.{Both}
-use Rattle.ice_net.specs.Drives.{input_type}
+use Rattle.ice_net.specs.Uses.{input_type}
 use Rattle.ice_net.specs.NetlistData.{NetlistData}
 use Rattle.ice_decode.specs.declared.point.Point.{Point}
 use Rattle.ice_decode.specs.Cells.{cells, has_carry, has_flop, reset_of}

@@ -10,7 +10,7 @@ use Rattle.ice_base_values.specs.Order.{Has}
 use Rattle.ice_chip.specs.declared.rows.Pad.{Pad}
 use Rattle.ice_decode.specs.declared.point.Point.{Point}
 use Rattle.ice_decode.specs.declared.point.Point.TheVariants.{Carry}
-use Rattle.ice_decode.specs.Faults.{IsOrderOf}
+use Rattle.ice_decode.specs.Loops.{IsOrderOf}
 use Rattle.ice_decode.specs.Pads.{is_enabled, kept_at, input_kept, output_kept}
 use Rattle.ice_decode.specs.Reads.{points}
 use Rattle.ice_net.specs.NetlistData.{NetlistData}

@@ -16,7 +16,7 @@ use Rattle.ice_bits.specs.Configuration.{Bits, bits_of}
 use Rattle.ice_decode.specs.declared.point.Point.{Point}
 use Rattle.ice_decode.specs.declared.point.Point.TheVariants.{Carry}
 use Rattle.ice_decode.specs.Cells.{logic_tiles}
-use Rattle.ice_decode.specs.Faults.{IsOrderOf}
+use Rattle.ice_decode.specs.Loops.{IsOrderOf}
 use Rattle.ice_decode.specs.Meaning.{tile_place}
 use Rattle.ice_decode.specs.Points.{HasWire}
 use Rattle.ice_decode.specs.Reads.{wire_point, points}

@@ -21,7 +21,7 @@ use Rattle.ice_decode.specs.declared.role.Role.TheVariants.{Plain, Output, LookU
 use Rattle.ice_decode.specs.Cells.{logic_tiles}
 use Rattle.ice_decode.specs.Direct.{takes_pad}
 use Rattle.ice_decode.specs.Drivers.{driver, role_of}
-use Rattle.ice_decode.specs.Faults.{IsOrderOf}
+use Rattle.ice_decode.specs.Loops.{IsOrderOf}
 use Rattle.ice_decode.specs.Points.{HasWire}
 use Rattle.ice_decode.specs.Reads.{wire_point, global_feed}
 use Rattle.ice_decode.proofs.PointPlaces.{StandsAs, wire_at, point_cases}

@@ -26,6 +26,12 @@ use indexmap::IndexSet;
 use std::alloc::Global;
 use std::marker::Model;
 
+// The tiles of a chip: up to this number, in 256 columns and rows.
+const MOST_TILES: usize = 65_536;
+
+// The pads of a package: up to this number, two at each tile.
+const MOST_PADS: usize = 131_072;
+
 /// A configured chip in a package. Contracts see the chip, its bits and the rows of the package. No reader takes memory.
 #[derive(Drop)]
 pub struct ConfiguredChip<'a> {
@@ -63,8 +69,8 @@ fn tile_set(alloc: Global, chip: &Chip, tiles: &[TileAt]) -> Result<IndexSet<Til
 
 // The signal of the table of the cell of a tile at a place, behind those of so many pads.
 fn cell_signal(pads: usize, place: usize, cell: u8) -> u32
-    requires pads { pads ≤ 131072 }
-    requires place { place < 65536 }
+    requires pads { pads ≤ MOST_PADS }
+    requires place { place < MOST_TILES }
     ensures number { result ≡ 2 + 5 * pads + 3 * (8 * place + cell) }
     ensures small { result < 2 ^ 30 }
 {
@@ -84,7 +90,11 @@ impl<'a> ConfiguredChip<'a> {
     ) -> Result<ConfiguredChip<'a>, NoMemory>
         requires circuit { IsCircuitOf chip.now circuit.now.configuration circuit.now }
         requires listed { Has chip.now.packages (package_view «package».now) }
-        ensures { IfOk result (λ configured. configured ≡ record { parts = chip.now; configuration = circuit.now.configuration; bonded = package_view «package».now }) }
+        ensures { IfOk result (λ configured. configured ≡ record {
+          parts = chip.now;
+          configuration = circuit.now.configuration;
+          bonded = package_view «package».now;
+        }) }
     {
         lookups_are_lawful();
         chip.is_chip();
@@ -141,7 +151,7 @@ impl<'a> ConfiguredChip<'a> {
     fn tile_place(&self, tile: TileAt) -> usize
         requires { IsSome (tile_place tile (logic_tiles self.now.parts)) }
         ensures place { tile_place tile (logic_tiles self.now.parts) ≡ Some result }
-        ensures small { result < 65536 }
+        ensures small { result < MOST_TILES }
     {
         self.tiles.get_index_of(&tile).unwrap()
     }
@@ -149,7 +159,7 @@ impl<'a> ConfiguredChip<'a> {
     // The number of the pads.
     fn pad_count(&self) -> usize
         ensures count { result ≡ length self.now.bonded.pads }
-        ensures few { result ≤ 131072 }
+        ensures few { result ≤ MOST_PADS }
     {
         self.package.pads.len()
     }
@@ -212,7 +222,8 @@ impl<'a> ConfiguredChip<'a> {
 
     /// Whether the pad's level is on some global.
     pub fn feeds_global(&self, pad: Pad) -> bool
-        ensures { result ≡ feeds_global self.now.parts (bits_of self.now.configuration) self.now.configuration.extras pad }
+        ensures { result ≡ feeds_global self.now.parts (bits_of self.now.configuration)
+            self.now.configuration.extras pad }
     {
         feeds_global(self.chip, self.circuit, pad)
     }
@@ -220,7 +231,8 @@ impl<'a> ConfiguredChip<'a> {
     // The root of a wire of the chip.
     fn wire_root(&self, wire: WireNo) -> LevelRoot
         requires { wire.0 < self.now.parts.wires }
-        ensures root { result ≡ root_of self.now.parts (bits_of self.now.configuration) self.now.configuration.extras self.now.bonded.pads (Wire wire) }
+        ensures root { result ≡ root_of self.now.parts (bits_of self.now.configuration)
+            self.now.configuration.extras self.now.bonded.pads (Wire wire) }
         ensures numbered { IsNumbered self.now.parts self.now.bonded.pads result }
     {
         root_at(&self.roots, wire)
@@ -228,7 +240,8 @@ impl<'a> ConfiguredChip<'a> {
 
     /// What reads the wire of a name in a tile; missing, where none has it.
     pub fn pin_reader(&self, bare: bool, tile: TileAt, name: &[u8]) -> Option<SignalNo>
-        ensures { result ≡ pin_reader self.now.parts (bits_of self.now.configuration) self.now.configuration.extras self.now.bonded.pads bare tile name.now }
+        ensures { result ≡ pin_reader self.now.parts (bits_of self.now.configuration)
+            self.now.configuration.extras self.now.bonded.pads bare tile name.now }
     {
         let wire = self.chip.wire_named(tile, name)?;
         self.reader_of(bare, self.wire_root(wire))
@@ -237,7 +250,8 @@ impl<'a> ConfiguredChip<'a> {
     /// What reads the carry of a cell of the chip.
     pub fn carry_reader(&self, tile: TileAt, cell: u8) -> Option<SignalNo>
         requires { StandsAt self.now.parts tile cell }
-        ensures { result ≡ reader self.now.parts (bits_of self.now.configuration) self.now.configuration.extras self.now.bonded.pads false (Some (Carry tile cell)) }
+        ensures { result ≡ reader self.now.parts (bits_of self.now.configuration)
+            self.now.configuration.extras self.now.bonded.pads false (Some (Carry tile cell)) }
     {
         self.reader_of(false, carry_root(self.chip, self.bits(), tile, cell))
     }

@@ -23,7 +23,8 @@ fn is_feeder(pad: Pad, feeder: Option<Pad>) -> bool
 // Whether a global has the level of the pad.
 fn has_level(chip: &Chip, circuit: &Circuit, pad: Pad, global: u8) -> bool
     requires { IsCircuitOf chip.now circuit.now.configuration circuit.now }
-    ensures { result ≡ (takes_pad chip.now circuit.now.configuration.extras global && is_feeder pad (gbufpin_of chip.now global)) }
+    ensures { result ≡ (takes_pad chip.now circuit.now.configuration.extras global
+        && is_feeder pad (gbufpin_of chip.now global)) }
 {
     circuit.takes_pad(global) && is_feeder(pad, chip.gbufpin_of(global))
 }
@@ -31,7 +32,10 @@ fn has_level(chip: &Chip, circuit: &Circuit, pad: Pad, global: u8) -> bool
 // Whether one of the eight globals has the level of the pad.
 fn some_has_level(chip: &Chip, circuit: &Circuit, pad: Pad) -> bool
     requires { IsCircuitOf chip.now circuit.now.configuration circuit.now }
-    ensures { result ≡ list_any (λ n. takes_pad chip.now circuit.now.configuration.extras n && is_feeder pad (gbufpin_of chip.now n)) globals }
+    ensures { result ≡ list_any
+        (λ n. takes_pad chip.now circuit.now.configuration.extras n
+        && is_feeder pad (gbufpin_of chip.now n))
+        globals }
 {
     has_level(chip, circuit, pad, 0)
         || has_level(chip, circuit, pad, 1)
@@ -46,7 +50,8 @@ fn some_has_level(chip: &Chip, circuit: &Circuit, pad: Pad) -> bool
 /// Whether the pad's level is on some global.
 pub(crate) fn feeds_global(chip: &Chip, circuit: &Circuit, pad: Pad) -> bool
     requires { IsCircuitOf chip.now circuit.now.configuration circuit.now }
-    ensures { result ≡ feeds_global chip.now (bits_of circuit.now.configuration) circuit.now.configuration.extras pad }
+    ensures { result ≡ feeds_global chip.now (bits_of circuit.now.configuration)
+        circuit.now.configuration.extras pad }
 {
     is_enabled(chip, circuit.bits(), pad) && some_has_level(chip, circuit, pad)
 }

@@ -36,7 +36,8 @@ fn wire_root(
 ) -> LevelRoot
     requires circuit { IsCircuitOf chip.now circuit.now.configuration circuit.now }
     requires wire { wire.0 < chip.now.wires }
-    ensures { result ≡ wire_root chip.now (bits_of circuit.now.configuration) circuit.now.configuration.extras pads.now.keys roots.now wire.0 }
+    ensures { result ≡ wire_root chip.now (bits_of circuit.now.configuration)
+        circuit.now.configuration.extras pads.now.keys roots.now wire.0 }
 {
     let bits = circuit.bits();
     match driver(chip, circuit, wire) {
@@ -57,7 +58,8 @@ fn fill(
     requires circuit { IsCircuitOf chip.now circuit.now.configuration circuit.now }
     requires order { All (HasWire chip.now) order.now }
     requires long { length roots.old ≡ chip.now.wires }
-    ensures { roots.new ≡ filled chip.now (bits_of circuit.now.configuration) circuit.now.configuration.extras pads.now.keys order.now roots.old }
+    ensures { roots.new ≡ filled chip.now (bits_of circuit.now.configuration)
+        circuit.now.configuration.extras pads.now.keys order.now roots.old }
 {
     for point in order {
         if let Point::Wire(wire) = *point {
@@ -77,7 +79,8 @@ pub(crate) fn all_roots(
     pads: &IndexSet<Pad>,
 ) -> Result<Vec<LevelRoot>, NoMemory>
     requires { IsCircuitOf chip.now circuit.now.configuration circuit.now }
-    ensures { IfOk result (λ roots. AreRoots chip.now (bits_of circuit.now.configuration) circuit.now.configuration.extras pads.now.keys roots.items) }
+    ensures { IfOk result (λ roots. AreRoots chip.now (bits_of circuit.now.configuration)
+        circuit.now.configuration.extras pads.now.keys roots.items) }
 {
     let mut roots = vec![in alloc; LevelRoot::Fixed(false); chip.wires() as usize]?;
     fill(chip, circuit, pads, circuit.order(), &mut roots);

@@ -57,7 +57,8 @@ fn is_read_by_name(chip: &Chip, wire: WireNo) -> bool
 // Whether a row that drives a wire of the chip leads from this one.
 fn is_source(chip: &Chip, circuit: &Circuit, wire: WireNo) -> bool
     requires { AreDrivers chip.now (bits_of circuit.now.configuration) circuit.now.drivers }
-    ensures { result ≡ list_any (leads_from wire.0) (map (driver chip.now (bits_of circuit.now.configuration)) (range_with_len 0 chip.now.wires)) }
+    ensures { result ≡ list_any (leads_from wire.0) (map
+        (driver chip.now (bits_of circuit.now.configuration)) (range_with_len 0 chip.now.wires)) }
 {
     let _chip = chip;
     some_leads_from(circuit.drivers(), wire)
@@ -67,7 +68,8 @@ fn is_source(chip: &Chip, circuit: &Circuit, wire: WireNo) -> bool
 fn is_heard_at(chip: &Chip, circuit: &Circuit, wire: Option<WireNo>) -> bool
     requires drivers { AreDrivers chip.now (bits_of circuit.now.configuration) circuit.now.drivers }
     requires wire { IfSome wire (λ wire. wire.0 < chip.now.wires) }
-    ensures { result ≡ is_heard_at chip.now (bits_of circuit.now.configuration) (option_map (λ wire. wire.0) wire) }
+    ensures { result ≡ is_heard_at chip.now (bits_of circuit.now.configuration)
+        (option_map (λ wire. wire.0) wire) }
 {
     match wire {
         None => false,

@@ -27,7 +27,8 @@ use indexmap::IndexSet;
 
 // A bit of a cell, as a number.
 fn digit(chip: &Chip, bits: &Bits, tile: TileAt, cell: u8, place: usize) -> u16
-    ensures value { result ≡ (if cell_bit chip.now (bits_of bits.now) tile cell place then 1 else 0) }
+    ensures value { result
+        ≡ (if cell_bit chip.now (bits_of bits.now) tile cell place then 1 else 0) }
     ensures small { result < 2 }
 {
     u16::from(cell_bit(chip, bits, tile, cell, place))
@@ -42,7 +43,8 @@ fn digits(
     low: (usize, usize),
     high: (usize, usize),
 ) -> u16
-    ensures value { result ≡ number_of (map (cell_bit chip.now (bits_of bits.now) tile cell) (low.0 ∷ low.1 ∷ high.0 ∷ high.1 ∷ [])) }
+    ensures value { result ≡ number_of (map (cell_bit chip.now (bits_of bits.now) tile cell)
+        (low.0 ∷ low.1 ∷ high.0 ∷ high.1 ∷ [])) }
     ensures small { result < 16 }
 {
     let lower = digit(chip, bits, tile, cell, low.0) + 2 * digit(chip, bits, tile, cell, low.1);
@@ -124,7 +126,8 @@ fn level_root(number: Option<usize>) -> LevelRoot
 
 // The number of a pad of the package whose input buffer is enabled.
 fn enabled_number(chip: &Chip, bits: &Bits, pads: &IndexSet<Pad>, pad: Pad) -> Option<usize>
-    ensures { result ≡ (if is_enabled chip.now (bits_of bits.now) pad then pad_number pad pads.now.keys else None) }
+    ensures { result ≡ (if is_enabled chip.now (bits_of bits.now) pad
+        then pad_number pad pads.now.keys else None) }
 {
     if !is_enabled(chip, bits, pad) {
         return None;
@@ -196,7 +199,8 @@ fn root_in(chip: &Chip, bits: &Bits, roots: &[LevelRoot], point: Point) -> Level
 
 // The root of a global that has no level of a pad, which is that of what feeds it.
 fn feed_root(chip: &Chip, bits: &Bits, roots: &[LevelRoot], global: u8) -> LevelRoot
-    ensures { result ≡ reading (Fixed false) (root_in chip.now (bits_of bits.now) roots.now) (global_feed chip.now global) }
+    ensures { result ≡ reading (Fixed false) (root_in chip.now (bits_of bits.now) roots.now)
+        (global_feed chip.now global) }
 {
     let Some(tile) = chip.global_of(global) else {
         return LevelRoot::Fixed(false);
@@ -216,7 +220,8 @@ fn either_root(
     global: u8,
     takes_pad: bool,
 ) -> LevelRoot
-    ensures { result ≡ either_root chip.now (bits_of bits.now) pads.now.keys roots.now global takes_pad }
+    ensures { result
+        ≡ either_root chip.now (bits_of bits.now) pads.now.keys roots.now global takes_pad }
 {
     if takes_pad {
         return fed_root(chip, bits, pads, chip.gbufpin_of(global));
@@ -233,7 +238,8 @@ fn global_root(
     global: u8,
 ) -> LevelRoot
     requires { IsCircuitOf chip.now circuit.now.configuration circuit.now }
-    ensures { result ≡ either_root chip.now (bits_of circuit.now.configuration) pads.now.keys roots.now global (takes_pad chip.now circuit.now.configuration.extras global) }
+    ensures { result ≡ either_root chip.now (bits_of circuit.now.configuration) pads.now.keys
+        roots.now global (takes_pad chip.now circuit.now.configuration.extras global) }
 {
     either_root(
         chip,
@@ -254,7 +260,8 @@ pub(crate) fn role_root(
     role: Role,
 ) -> LevelRoot
     requires { IsCircuitOf chip.now circuit.now.configuration circuit.now }
-    ensures { result ≡ own_root chip.now (bits_of circuit.now.configuration) circuit.now.configuration.extras pads.now.keys roots.now role }
+    ensures { result ≡ own_root chip.now (bits_of circuit.now.configuration)
+        circuit.now.configuration.extras pads.now.keys roots.now role }
 {
     let bits = circuit.bits();
     match role {
@@ -277,7 +284,10 @@ pub(crate) fn switch_root(
     switch: Switch,
 ) -> LevelRoot
     requires { switch.source.0 < chip.now.wires }
-    ensures { result ≡ first_root (map (reading (Fixed false) (root_in chip.now (bits_of bits.now) roots.now)) (if passes chip.now (bits_of bits.now) switch then Some (Wire switch.source) ∷ [] else [])) }
+    ensures { result
+        ≡ first_root (map (reading (Fixed false) (root_in chip.now (bits_of bits.now) roots.now))
+        (if passes chip.now (bits_of bits.now) switch then Some (Wire switch.source) ∷ []
+        else [])) }
 {
     if passes(chip, bits, &switch) {
         return root_in(chip, bits, roots, Point::Wire(switch.source));

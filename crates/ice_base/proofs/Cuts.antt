@@ -1,7 +1,8 @@
 -- Where a text is cut into lines and words.
 use Rattle.std.proofs.Common.{◌≡◌, ◌≢◌, ℕ, ◌<◌, ◌≤◌, ◌+◌, ◌==◌, Bool, true, false, List, [], ◌∷◌, ◌++◌, length, filter, ◌-◌, length-drop, get_or, take, drop, refl, sym, ap, subst, ◌∙◌, zero, suc, length-take, arith, rules, tests, append-nil, nat_lt}
 use Rattle.std.proofs.lemmas.List.{at_drop_more, at_drop_all, get_or_default, take_more, take_all}
-use Rattle.ice_base.specs.Text.{onto_first, lines, numbered, pieces, words, ends_word, StartsWord}
+use Rattle.ice_base.specs.Text.{onto_first, lines, numbered, pieces, words, ends_word}
+use Rattle.ice_base.specs.Lines.{StartsWord}
 
 -- a front, joined to the first piece
 abbrev pub join_front : List ℕ → List (List ℕ) → List (List ℕ)

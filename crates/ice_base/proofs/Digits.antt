@@ -1,7 +1,8 @@
 -- How a word is read as a number, digit by digit.
-use Rattle.std.proofs.Common.{◌≡◌, ◌⊎◌, inl, inr, ℕ, ◌<◌, ◌≤◌, ◌+◌, ◌^◌, Bool, true, false, ◌&&◌, List, [], ◌∷◌, length, get_or, drop, nat_lt, nat_le, Some, None, if◌then◌else◌, refl, sym, ap, ◌∙◌, arith, rules, tests}
+use Rattle.std.proofs.Common.{◌≡◌, ◌⊎◌, inl, inr, ℕ, zero, suc, ◌<◌, ◌≤◌, ◌+◌, ◌*◌, ◌^◌, Bool, true, false, ◌&&◌, List, [], ◌∷◌, length, get_or, drop, nat_lt, nat_le, Some, None, if◌then◌else◌, refl, sym, ap, ◌∙◌, arith, rules, tests}
 use Rattle.std.proofs.lemmas.Bool.{and_parts, and_cases}
 use Rattle.std.proofs.lemmas.List.{at_drop_more, at_drop_all}
+use Rattle.std.proofs.Math.Nat.{pow-suc}
 use Rattle.std.specs.Char.{is_ascii_digit}
 use Rattle.std.specs.Str.{all_ascii_digits}
 use Rattle.ice_base.proofs.Booleans.{and_false}
@@ -103,3 +104,39 @@ digits_end word i number so_far le some short =
     let value : decimal_value word ≡ number = so_far.value ∙ at_drop_all (with_digits number) word i le in
     let digits : all_ascii_digits word ≡ true = so_far.digits ∙ at_drop_all all_ascii_digits word i le in
     sym (number_here word number some short digits value so_far.fits)
+
+-- ---- words of at most nine digits
+-- a byte that is no digit
+pub no_digit : (word : List ℕ) (i number : ℕ) → ReadTo word (drop i word) number → i < length word → is_ascii_digit (get_or word i 0) ≡ false → number_in word ≡ None
+no_digit word i number so_far lt other =
+    no_digits word (digits_go_on word i number so_far lt ∙ ap (λ first. first && all_ascii_digits (drop (i + 1) word)) other)
+
+few_digits : (i : ℕ) → i < 9 → 10 ^ i ≤ 100000000
+few_digits zero lt = omega arith
+few_digits (suc zero) lt = omega arith
+few_digits (suc (suc zero)) lt = omega arith
+few_digits (suc (suc (suc zero))) lt = omega arith
+few_digits (suc (suc (suc (suc zero)))) lt = omega arith
+few_digits (suc (suc (suc (suc (suc zero))))) lt = omega arith
+few_digits (suc (suc (suc (suc (suc (suc zero)))))) lt = omega arith
+few_digits (suc (suc (suc (suc (suc (suc (suc zero))))))) lt = omega arith
+few_digits (suc (suc (suc (suc (suc (suc (suc (suc zero)))))))) lt = omega arith
+few_digits (suc (suc (suc (suc (suc (suc (suc (suc (suc n))))))))) lt = absurd (omega arith)
+
+pub short_below : (number i : ℕ) → number < 10 ^ i → i < 9 → number < 100000000
+short_below number i below lt = let few = few_digits i lt in omega (arith, below, few)
+
+pub short_joins : (word : List ℕ) (i number next : ℕ) → ReadTo word (drop i word) number → number < 10 ^ i → i < length word → is_ascii_digit (get_or word i 0) ≡ true → next ≡ with_digit number (get_or word i 0) → length word < 10
+    → ReadTo word (drop (i + 1) word) next × (next < 10 ^ (i + 1))
+short_joins word i number next so_far below lt digit is short =
+    let most : get_or word i 0 ≤ 57 = search (rules, tests) in
+    let small : number < 100000000 = short_below number i below (omega (arith, lt, short)) in
+    let one : i + 1 ≡ suc i = omega arith in
+    let power : 10 ^ (i + 1) ≡ 10 ^ i * 10 = ap (λ n. 10 ^ n) one ∙ pow-suc 10 i in (
+      record {
+        value = value_goes_on word i number so_far lt ∙ ap (λ n. with_digits n (drop (i + 1) word)) (sym is);
+        digits = digits_go_on word i number so_far lt ∙ ap (λ first. first && all_ascii_digits (drop (i + 1) word)) digit;
+        fits = omega (arith, is, most, small);
+      },
+      omega (arith, is, most, below, power),
+    )

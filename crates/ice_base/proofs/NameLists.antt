@@ -3,7 +3,8 @@ use Rattle.std.proofs.Common.{◌≡◌, ℕ, ◌+◌, ◌<◌, Bool, true, fals
 use Rattle.std.specs.List.{list_any, position_or_len}
 use Rattle.std.proofs.lemmas.List.Sums.{prefix_len-le-length}
 use Rattle.std.specs.declared.alloc.Global.{Global}
-use Rattle.ice_base.specs.Lists.{texts, with_name, number_of_name}
+use Rattle.ice_base.specs.Lists.{with_name, number_of_name}
+use Rattle.ice_base.specs.Keys.{texts}
 
 -- a key is this name
 abbrev pub has_name : List ℕ → Vec ℕ Global → Bool

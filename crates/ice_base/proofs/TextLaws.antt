@@ -8,7 +8,8 @@ use Rattle.std.proofs.lemmas.Bool.{and_parts}
 use Rattle.std.proofs.lemmas.List.Elements.{filter-append}
 use Rattle.std.proofs.lemmas.Str.Parse.{IsNumeralModel, numerals_by_fold, tells_all_ascii_digits}
 use Rattle.std.proofs.lemmas.Fmt.{digits_decimal, digits_value-decimal, length-decimal-le, decimal_nonempty}
-use Rattle.ice_base.specs.Text.{onto_first, lines, pieces, words, words_of_lines, ends_word, IsLine, IsWord, with_digits, number_in}
+use Rattle.ice_base.specs.Text.{onto_first, lines, pieces, words, ends_word, with_digits, number_in}
+use Rattle.ice_base.specs.Lines.{words_of_lines, IsLine, IsWord}
 use Rattle.ice_base.proofs.Cuts.{join_front, join_line, join_nothing, join_more, some_bytes, line_step, line_end, no_lines, piece_step, piece_end, words_are, no_pieces, no_words, kept}
 use Rattle.ice_base.proofs.Digits.{number_here}
 

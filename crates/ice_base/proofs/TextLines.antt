@@ -1,7 +1,8 @@
 -- A text of lines has these lines.
 use Rattle.std.proofs.Common.{◌≡◌, ℕ, true, false, List, [], ◌∷◌, ◌++◌, ap, ◌∙◌, append_assoc}
 use Rattle.std.specs.List.{AllByRecursion}
-use Rattle.ice_base.specs.Text.{lines, ends_word, IsLine, text_of_lines}
+use Rattle.ice_base.specs.Text.{lines, ends_word}
+use Rattle.ice_base.specs.Lines.{IsLine, text_of_lines}
 use Rattle.ice_base.proofs.TextLaws.{no_lines_left, first_line}
 
 pub all_append : {X : Type 0} (P : X → Type 0) (xs ys : List X) → AllByRecursion P xs → AllByRecursion P ys → AllByRecursion P (xs ++ ys)

@@ -1,17 +1,12 @@
 -- Lists of values that may be unknown, and of names, each numbered by its place.
-use Rattle.std.specs.Prelude.{Option, Some, None, List, [], ◌∷◌, option_map, ℕ, ◌++◌, map, if◌then◌else◌, bytes_eq, Vec}
+use Rattle.std.specs.Prelude.{Option, Some, None, List, [], ◌∷◌, option_map, ℕ, ◌++◌, if◌then◌else◌, bytes_eq}
 use Rattle.std.specs.List.{list_any, position_or_len}
-use Rattle.std.specs.declared.alloc.Global.{Global}
 
 -- all the values of a list, where each is known
 abbrev pub all_known : {A : Type 0} → List (Option A) → Option (List A)
 all_known [] = Some []
 all_known (None ∷ others) = None
 all_known (Some x ∷ others) = option_map (λ xs. x ∷ xs) (all_known others)
-
--- names without where they lie in memory
-abbrev pub texts : List (Vec ℕ Global) → List (List ℕ)
-texts keys = map (λ key. key.items) keys
 
 -- the names after one more appears: a new name goes last
 abbrev pub with_name : List (List ℕ) → List ℕ → List (List ℕ)

@@ -1,7 +1,7 @@
 -- Places of tiles and bits, the names of bits, and their values as digits.
 use Rattle.std.specs.Prelude.{ℕ, ◌==◌, ◌&&◌, Bool, true, false, Option, Some, None, List, [], ◌∷◌, map, option_map, if◌then◌else◌}
 use Rattle.ice_base.specs.declared.number.TileAt.{TileAt}
-use Rattle.ice_base.specs.declared.number.BitAt.{BitAt}
+use Rattle.ice_base.specs.declared.bit.BitAt.{BitAt}
 use Rattle.std.specs.Option.{option_and_then}
 use Rattle.ice_base.specs.Lists.{all_known}
 use Rattle.ice_base.specs.Text.{number_below}

@@ -1,6 +1,5 @@
 -- Lines, words and numbers of a text. A text is a list of bytes.
-use Rattle.std.specs.Prelude.{ℕ, ◌+◌, ◌-◌, ◌^◌, min, ◌<◌, ◌≡◌, ◌≢◌, Bool, false, ◌||◌, List, [], ◌∷◌, ◌++◌, length, filter, nat_lt, ◌==◌, if◌then◌else◌, ◌*◌, ◌&&◌, nat_le, Option, Some, None}
-use Rattle.std.specs.List.{AllByRecursion, flat_map}
+use Rattle.std.specs.Prelude.{ℕ, ◌+◌, ◌-◌, ◌^◌, min, Bool, false, ◌||◌, List, [], ◌∷◌, length, filter, nat_lt, ◌==◌, if◌then◌else◌, ◌*◌, ◌&&◌, nat_le, Option, Some, None}
 use Rattle.std.specs.Option.{option_and_then}
 use Rattle.std.specs.Str.{all_ascii_digits}
 
@@ -13,10 +12,6 @@ onto_first b (piece ∷ pieces) = (b ∷ piece) ∷ pieces
 unfoldable pub lines : List ℕ → List (List ℕ)
 lines [] = []
 lines (b ∷ bytes) = if b == 10 then [] ∷ lines bytes else onto_first b (lines bytes)
-
--- the text of these lines, each ended by a line feed
-abbrev pub text_of_lines : List (List ℕ) → List ℕ
-text_of_lines ls = flat_map (λ (line : List ℕ). line ++ 10 ∷ []) ls
 
 -- the number of the line after line n: every line beyond the last number has that number too
 abbrev pub next_number : ℕ → ℕ
@@ -44,24 +39,6 @@ pieces (b ∷ bytes) = if ends_word b then [] ∷ pieces bytes else onto_first b
 unfoldable pub words : List ℕ → List (List ℕ)
 words bytes = filter (λ piece. nat_lt 0 (length piece)) (pieces bytes)
 
--- the words of each line, line after line; the words of a text are those of its lines (the law `words_by_lines`)
-abbrev pub words_of_lines : List (List ℕ) → List (List ℕ)
-words_of_lines [] = []
-words_of_lines (line ∷ lines) = words line ++ words_of_lines lines
-
--- what may stand in a line: no line feed
-abbrev pub IsLine : List ℕ → Type 0
-IsLine bytes = AllByRecursion (λ b. b ≢ 10) bytes
-
--- a word: one byte or more, none of which ends a word
-abbrev pub IsWord : List ℕ → Type 0
-IsWord bytes = (0 < length bytes) × AllByRecursion (λ b. ends_word b ≡ false) bytes
-
--- nothing, or a word stands at the front
-abbrev pub StartsWord : List ℕ → Type 0
-StartsWord [] = Unit {0}
-StartsWord (b ∷ bytes) = ends_word b ≡ false
-
 -- ---- comments
 -- the word begins with this byte
 abbrev pub begins_with : ℕ → List ℕ → Bool
@@ -83,10 +60,6 @@ with_words number (w ∷ ws) others = (number, w ∷ ws) ∷ others
 abbrev pub plain_lines : List (ℕ × List ℕ) → List (ℕ × List (List ℕ))
 plain_lines [] = []
 plain_lines (line ∷ lines) = with_words line.0 (uncommented (words line.1)) (plain_lines lines)
-
--- those of a text
-abbrev pub plain_lines_of : List ℕ → List (ℕ × List (List ℕ))
-plain_lines_of text = plain_lines (numbered 1 (lines text))
 
 -- the number that n's digits and one more digit write; 48 is `0`
 abbrev pub with_digit : ℕ → ℕ → ℕ

@@ -20,7 +20,8 @@ pub fn cut_at(byte: u8, bytes: &[u8]) -> Option<(&[u8], &[u8])>
 // The place of the bit with these words for row and column.
 #[tactic(auto, using(crate::proofs::PlainBits::bit_is))]
 fn bit_at(columns: u8, row: &[u8], column: &[u8]) -> Option<BitAt>
-    ensures { IfSome result (λ bit. bit_named columns (66 ∷ (row.now ++ 91 ∷ (column.now ++ 93 ∷ []))) ≡ Some bit) }
+    ensures { IfSome result (λ bit.
+        bit_named columns (66 ∷ (row.now ++ 91 ∷ (column.now ++ 93 ∷ []))) ≡ Some bit) }
 {
     let row = number_below(16, row)? as u8;
     let col = number_below(u32::from(columns), column)? as u8;

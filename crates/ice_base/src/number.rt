@@ -27,15 +27,6 @@ pub struct TileAt {
     pub y: u16,
 }
 
-/// The place of a configuration bit in its tile.
-#[derive(Clone, Copy, Debug, Default, PartialEq, Eq)]
-pub struct BitAt {
-    /// The line of the tile's bits, from 0.
-    pub row: u8,
-    /// The place in that line, from 0.
-    pub col: u8,
-}
-
 /// A place is hashed as one number, as maps by places are looked up often.
 impl Hash for TileAt {
     ghost use Rattle.std.specs.Prelude.{◌+◌, ◌*◌};
@@ -49,21 +40,5 @@ impl Hash for TileAt {
 
     fn hash<H: Hasher>(&self, state: &mut H) {
         (u32::from(self.x) * 65_536 + u32::from(self.y)).hash(state);
-    }
-}
-
-/// A place is hashed as one number, as maps by places are looked up often.
-impl Hash for BitAt {
-    ghost use Rattle.std.specs.Prelude.{◌+◌, ◌*◌};
-    ghost use Rattle.std.specs.Hash as fed;
-    ghost use Rattle.std.specs.Cmp.Rules.{hashing};
-    ghost use Rattle.std.proofs.Common.{rules};
-
-    ghost hash_input = { λ bit. fed.u16 (bit.row * 256 + bit.col) };
-
-    ghost respects_eq = { Prim.search (hashing, rules) };
-
-    fn hash<H: Hasher>(&self, state: &mut H) {
-        (u16::from(self.row) * 256 + u16::from(self.col)).hash(state);
     }
 }

@@ -34,11 +34,4 @@ impl Sink {
     {
         self.targets.as_slice()
     }
-
-    /// The list of the targets, as it was given. Takes no memory.
-    pub fn into_targets(self) -> Vec<WireNo>
-        ensures { result.items ≡ self }
-    {
-        self.targets
-    }
 }

@@ -1,6 +1,7 @@
 //! The words of a text.
 ghost use Rattle.std.specs.Prelude.{◌≡◌, ◌<◌, ◌∷◌, [], length};
-ghost use Rattle.ice_base.specs.Text.{words, ends_word, StartsWord};
+ghost use Rattle.ice_base.specs.Text.{words, ends_word};
+ghost use Rattle.ice_base.specs.Lines.{StartsWord};
 
 use std::marker::Model;
 

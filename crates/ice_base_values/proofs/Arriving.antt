@@ -2,7 +2,8 @@
 use Rattle.std.proofs.Common.{◌≡◌, ℕ, zero, suc, ◌+◌, ◌<◌, ◌≤◌, Option, None, Some, List, [], ◌∷◌, map, inl, inr, refl, ap, sym, ◌∙◌, subst, arith}
 use Rattle.std.specs.Prelude.{option_map}
 use Rattle.ice_base.specs.Lists.{all_known}
-use Rattle.ice_base_values.specs.System.{System, value, reading, try_reading, gapped}
+use Rattle.ice_base_values.specs.System.{System, value, reading, gapped}
+use Rattle.ice_base_values.specs.Simulations.{try_reading}
 use Rattle.ice_base_values.specs.Order.{Has}
 use Rattle.ice_base_values.specs.Arriving.{Arrive, IsMade, HasValue, HaveValues}
 use Rattle.ice_base_values.proofs.Values.{value_at_more}

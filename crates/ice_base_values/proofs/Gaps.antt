@@ -3,7 +3,8 @@ use Rattle.std.proofs.Common.{◌≡◌, ℕ, zero, suc, Option, None, Some, Lis
 use Rattle.std.specs.Prelude.{option_map}
 use Rattle.std.proofs.lemmas.List.{take_more}
 use Rattle.ice_base.specs.Lists.{all_known}
-use Rattle.ice_base_values.specs.System.{value, present, reading, try_reading, filled_inputs, gapped}
+use Rattle.ice_base_values.specs.System.{value, present, reading, filled_inputs, gapped}
+use Rattle.ice_base_values.specs.Simulations.{try_reading}
 use Rattle.ice_base_values.specs.Order.{At}
 
 -- what the inputs read, by an assignment to the connected points

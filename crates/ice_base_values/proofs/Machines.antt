@@ -1,7 +1,8 @@
 -- Two machines of which the one simulates the other show the same.
 use Rattle.std.proofs.Common.{◌≡◌, List, [], ◌∷◌, refl, ap, ◌∙◌}
 use Rattle.std.specs.List.{AllByRecursion}
-use Rattle.ice_base_values.specs.System.{machine_shows, Simulates}
+use Rattle.ice_base_values.specs.System.{machine_shows}
+use Rattle.ice_base_values.specs.Simulations.{Simulates}
 
 -- from states that are tied, both machines show the same for every list of allowed levels
 pub shows_alike : {S T L O : Type 0} (f : S → L → S × O) (g : T → L → T × O) (R : S → T → Type 0) (Allowed : L → Type 0)

@@ -4,7 +4,8 @@ use Rattle.std.proofs.Common.{◌≡◌, ℕ, zero, suc, ◌+◌, ◌-◌, ◌<�
 use Rattle.std.specs.Prelude.{option_map}
 use Rattle.std.proofs.lemmas.Option.{slice_get_within}
 use Rattle.ice_base.specs.Lists.{all_known}
-use Rattle.ice_base_values.specs.System.{System, value, MeetsEquation}
+use Rattle.ice_base_values.specs.System.{System, value}
+use Rattle.ice_base_values.specs.Simulations.{MeetsEquation}
 use Rattle.ice_base_values.specs.Order.{At, Has, Descends, IsOrder}
 use Rattle.ice_base.proofs.Options.{option_map_some, option_map_same}
 use Rattle.ice_base_values.proofs.Together.{map_along, together_more, together_are, together_there}

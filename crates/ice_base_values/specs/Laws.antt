@@ -3,7 +3,8 @@ use Rattle.std.specs.Prelude.{◌≡◌, ℕ, ◌+◌, ◌<◌, Bool, true, None
 use Rattle.std.specs.List.{AllByRecursion}
 use Rattle.std.proofs.Common.{◌⊎◌, suc}
 use Rattle.ice_base.specs.Lists.{all_known}
-use Rattle.ice_base_values.specs.System.{System, value, MeetsEquation, try_reading, gapped, machine_shows, Simulates}
+use Rattle.ice_base_values.specs.System.{System, value, gapped, machine_shows}
+use Rattle.ice_base_values.specs.Simulations.{MeetsEquation, try_reading, Simulates}
 use Rattle.ice_base_values.specs.Order.{Has, IsOrder, IsCycle, IsCycleBelow}
 
 -- more steps change no value that is there

@@ -1,4 +1,5 @@
 pub mod System
+pub mod Simulations
 pub mod Order
 pub mod Graph
 pub mod Search

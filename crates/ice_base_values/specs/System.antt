@@ -1,6 +1,6 @@
 -- Systems of points that depend on one another, and the value of a point. A point is what carries a level or a number
 -- at one moment: a signal of a netlist, the output of a cell of a design, a wire of a chip, a carry between two cells.
-use Rattle.std.specs.Prelude.{◌≡◌, ℕ, Option, None, List, map, option_map, Some, [], ◌∷◌}
+use Rattle.std.specs.Prelude.{ℕ, Option, None, List, map, option_map, Some, [], ◌∷◌}
 use Rattle.std.proofs.Common.{zero, suc}
 use Rattle.ice_base.specs.Lists.{all_known}
 
@@ -18,10 +18,6 @@ abbrev pub value : {P A : Type 0} → System P A → ℕ → P → Option A
 value system zero point = None
 value system (suc steps) point = option_map (system.local point) (all_known (map (λ read. value system steps read) (system.depends point)))
 
--- each point has the value that its local function makes of the values that it reads
-abbrev pub MeetsEquation : {P A : Type 0} → System P A → (P → A) → P → Type 0
-MeetsEquation system v point = v point ≡ system.local point (map v (system.depends point))
-
 -- ---- inputs that nothing may be connected to
 -- the points that the connected inputs read
 abbrev pub present : {P : Type 0} → List (Option P) → List P
@@ -33,11 +29,6 @@ present (Some point ∷ inputs) = point ∷ present inputs
 abbrev pub reading : {P A : Type 0} → A → (P → A) → Option P → A
 reading bare v None = bare
 reading bare v (Some point) = v point
-
--- the same, where the point may be without a value
-abbrev pub try_reading : {P A : Type 0} → A → (P → Option A) → Option P → Option A
-try_reading bare v None = Some bare
-try_reading bare v (Some point) = v point
 
 -- what all the inputs read, where `xs` are the values of the connected ones
 abbrev pub filled_inputs : {P A : Type 0} → A → List (Option P) → List A → List A
@@ -57,10 +48,3 @@ gapped inputs bare local = record { depends = λ point. present (inputs point); 
 abbrev pub machine_shows : {S L O : Type 0} → (S → L → S × O) → S → List L → List O
 machine_shows step state [] = []
 machine_shows step state (levels ∷ later) = (step state levels).1 ∷ machine_shows step (step state levels).0 later
-
--- A simulation of one machine by another: R ties the states of the one to those of the other. For levels that are allowed and
--- states that are tied, both show the same in the step, and the states after it are tied again.
-abbrev pub Simulates : {S T L O : Type 0} → (S → L → S × O) → (T → L → T × O) → (S → T → Type 0) → (L → Type 0) → Type 0
-Simulates {S} {T} {L} first second R Allowed =
-    (s : S) (t : T) (levels : L) → Allowed levels → R s t
-    → R (first s levels).0 (second t levels).0 × ((first s levels).1 ≡ (second t levels).1)

@@ -20,7 +20,8 @@ pub trait Points {
         requires ready { is_ready self.now }
         requires point { point < points self.now }
         requires values { length values.now ≡ points self.now }
-        ensures { result ≡ (system self.now).local point (map (λ q. slice_index_or values.now q false) ((system self.now).depends point)) };
+        ensures { result ≡ (system self.now).local point
+            (map (λ q. slice_index_or values.now q false) ((system self.now).depends point)) };
 }
 
 /// Fills an array with the values of all points, each found once. What the array had before doesn't matter. It takes no memory.
@@ -29,7 +30,8 @@ pub fn evaluate<P: Points>(points: &P, order: &[usize], values: &mut [bool])
     requires order { IsOrder (P.points points.now) (P.system points.now).depends order.now }
     requires values { length values.old ≡ P.points points.now }
     ensures { (p : ℕ) → p < P.points points.now
-        → value (P.system points.now) (P.points points.now + 1) p ≡ Some (slice_index_or values.new p false) }
+        → value (P.system points.now) (P.points points.now + 1) p
+        ≡ Some (slice_index_or values.new p false) }
 {
     for &point in order {
         let value = points.local(point, values);

@@ -32,7 +32,8 @@ enum Mark {
 fn first_not_done(marks: &[Mark], reads: &[usize], cursor: usize) -> usize
     requires { (j point : ℕ) → At reads.now j point → point < length marks.now }
     ensures bound { result ≤ length reads.now }
-    ensures passed { (j point : ℕ) → cursor ≤ j → j < result → At reads.now j point → At marks.now point Mark.Done }
+    ensures passed { (j point : ℕ) → cursor ≤ j → j < result → At reads.now j point
+        → At marks.now point Mark.Done }
     ensures stopped { (point : ℕ) → At reads.now result point → At marks.now point Mark.Done → ⊥ }
 {
     for place in cursor..reads.len() {
@@ -75,7 +76,8 @@ impl Search {
         requires search { IsSearching graph.now self.old }
         requires last { At self.old.path.items (length self.old.path.items - 1) point }
         ensures goes_on { IfOk result (λ cycle. IfNone cycle (GoesOn graph.now self.old self.new)) }
-        ensures cycle { IfOk result (λ cycle. IfSome cycle (λ start. ClosesCycle graph.now self.new start)) }
+        ensures cycle { IfOk result (λ cycle.
+            IfSome cycle (λ start. ClosesCycle graph.now self.new start)) }
     {
         let reads = graph.depends(point);
         let cursor = first_not_done(&self.marks, reads, self.next[point]);
@@ -101,7 +103,8 @@ impl Search {
 
     // A search that has entered no point.
     fn new(alloc: Global, points: usize) -> Result<Self, AllocError>
-        ensures search { IfOk result (λ s. (rows : List (List ℕ)) → length rows ≡ points → IsSearching rows s) }
+        ensures search { IfOk result (λ s.
+            (rows : List (List ℕ)) → length rows ≡ points → IsSearching rows s) }
         ensures path { IfOk result (λ s. s.path.items ≡ []) }
     {
         Ok(Search {
@@ -122,7 +125,8 @@ impl Search {
         ensures search { IfOk result (λ cycle. IfNone cycle (IsSearching graph.now self.new)) }
         ensures path { IfOk result (λ cycle. IfNone cycle (self.new.path.items ≡ [])) }
         ensures entered { IfOk result (λ cycle. IfNone cycle (NewOnly self.old self.new root)) }
-        ensures cycle { IfOk result (λ cycle. IfSome cycle (λ start. ClosesCycle graph.now self.new start)) }
+        ensures cycle { IfOk result (λ cycle.
+            IfSome cycle (λ start. ClosesCycle graph.now self.new start)) }
     {
         match self.marks[root] {
             Mark::New => {}

@@ -13,8 +13,8 @@ pub fn from_least(alloc: Global, cycle: &[usize]) -> Result<Vec<usize>, AllocErr
     ensures same { IfOk result (λ turned. (points : ℕ) (depends : ℕ → List ℕ)
         → IsCycleBelow points depends cycle.now → IsCycleBelow points depends turned.items) }
     ensures once { IfOk result (λ turned. StandOnce cycle.now → StandOnce turned.items) }
-    ensures least { IfOk result (λ turned. (i first p : ℕ) → At turned.items 0 first → At turned.items i p
-        → first ≤ p) }
+    ensures least { IfOk result (λ turned.
+        (i first p : ℕ) → At turned.items 0 first → At turned.items i p → first ≤ p) }
 {
     let turned = turned(alloc, cycle, place_of_least(cycle))?;
     Ok(turned)

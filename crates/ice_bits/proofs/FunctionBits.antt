@@ -3,12 +3,13 @@ use Rattle.std.proofs.Common.{◌≡◌, ℕ, Bool, true, false, Option, None, S
 use Rattle.std.specs.Prelude.{slice_get, if◌then◌else◌}
 use Rattle.std.specs.Option.{option_map_or, option_and_then}
 use Rattle.ice_base.specs.declared.number.TileAt.{TileAt}
-use Rattle.ice_base.specs.declared.number.BitAt.{BitAt}
+use Rattle.ice_base.specs.declared.bit.BitAt.{BitAt}
 use Rattle.ice_chip.specs.Database.{FunctionRow}
 use Rattle.ice_chip.specs.Lookups.{function_of}
 use Rattle.ice_chip.specs.declared.rows.TileKind.{TileKind}
 use Rattle.ice_chip.proofs.SameKinds.{kind_self}
-use Rattle.ice_bits.specs.Configuration.{Configuration, bits_of, kind_in, is_of_kind, is_there}
+use Rattle.ice_bits.specs.Configuration.{Configuration, bits_of}
+use Rattle.ice_bits.specs.Grids.{kind_in, is_of_kind, is_there}
 use Rattle.ice_bits.specs.FunctionBits.{if_there, bit_place, with_function, ReadsByName}
 use Rattle.ice_bits.specs.Rewriting.{Rewrites}
 use Rattle.ice_bits.specs.Written.{with_bit}

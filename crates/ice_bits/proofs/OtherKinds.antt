@@ -3,11 +3,12 @@ use Rattle.std.proofs.Common.{◌≡◌, ℕ, false, Option, None, Some, List, r
 use Rattle.std.specs.Prelude.{slice_get}
 use Rattle.std.specs.Option.{option_map_or, option_and_then}
 use Rattle.ice_base.specs.declared.number.TileAt.{TileAt}
-use Rattle.ice_base.specs.declared.number.BitAt.{BitAt}
+use Rattle.ice_base.specs.declared.bit.BitAt.{BitAt}
 use Rattle.ice_chip.specs.Database.{Parts, FunctionRow}
 use Rattle.ice_chip.specs.Lookups.{kind_at, function_of}
 use Rattle.ice_chip.specs.declared.rows.TileKind.{TileKind}
-use Rattle.ice_bits.specs.Settings.{function_bit, LacksFunctionAt, OtherKindsReadZero}
+use Rattle.ice_bits.specs.Settings.{function_bit}
+use Rattle.ice_bits.specs.LackedFunctions.{LacksFunctionAt, OtherKindsReadZero}
 
 no_place : (parts : Parts) (t : TileAt) (name : List ℕ) (k : ℕ) → LacksFunctionAt parts t name → function_bit parts t name k ≡ None
 no_place parts t name k lacks = by (kind_at parts t) refl

@@ -6,8 +6,9 @@ use Rattle.std.proofs.lemmas.Bool.{and_parts}
 use Rattle.std.proofs.lemmas.List.{length-set, map-set}
 use Rattle.std.specs.declared.alloc.Global.{Global}
 use Rattle.std.proofs.lemmas.List.Elements.{All-get_or, All-from_get_or}
-use Rattle.ice_base.specs.declared.number.BitAt.{BitAt}
-use Rattle.ice_bits.specs.Configuration.{bit_in, is_in, same_place, IsGrid}
+use Rattle.ice_base.specs.declared.bit.BitAt.{BitAt}
+use Rattle.ice_bits.specs.Configuration.{bit_in, same_place}
+use Rattle.ice_bits.specs.Grids.{is_in, IsGrid}
 use Rattle.ice_bits.specs.Rewriting.{rows_with}
 use Rattle.ice_bits.specs.TileRows.{rows_view}
 use Rattle.ice_base.proofs.Keys.{place_same}

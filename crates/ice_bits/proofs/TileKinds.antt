@@ -7,7 +7,8 @@ use Rattle.ice_chip.specs.Database.{Parts, same_tile, tile_known}
 use Rattle.ice_chip.specs.Lookups.{kind_at}
 use Rattle.ice_chip.specs.declared.rows.TileLine.{TileLine}
 use Rattle.ice_chip.specs.declared.rows.TileKind.{TileKind}
-use Rattle.ice_bits.specs.Configuration.{Configuration, AreGrids, IsOf, kind_in, kind_of_tile}
+use Rattle.ice_bits.specs.Configuration.{Configuration}
+use Rattle.ice_bits.specs.Grids.{AreGrids, IsOf, kind_in, kind_of_tile}
 use Rattle.ice_bits.specs.TilePlaces.{place_in}
 
 kinds_of_grids : (tiles : List (TileAt × TileLine)) (grids : List (TileAt × List (List Bool))) (t : TileAt) → AreGrids tiles grids

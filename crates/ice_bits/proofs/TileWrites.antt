@@ -6,13 +6,14 @@ use Rattle.std.specs.Option.{option_map_or, option_and_then, option_or}
 use Rattle.std.proofs.lemmas.Bool.{and_parts}
 use Rattle.std.proofs.lemmas.List.{take_more, map-append, length-take-le}
 use Rattle.ice_base.specs.declared.number.TileAt.{TileAt}
-use Rattle.ice_base.specs.declared.number.BitAt.{BitAt}
+use Rattle.ice_base.specs.declared.bit.BitAt.{BitAt}
 use Rattle.ice_chip.specs.Database.{Parts, SwitchGroup, SwitchRow, same_tile, columns}
-use Rattle.ice_chip.specs.Lookups.{tile_of, rows_of}
+use Rattle.ice_chip.specs.Listings.{tile_of, rows_of}
 use Rattle.ice_chip.specs.declared.tile.Tile.{Tile}
 use Rattle.ice_chip.specs.declared.rows.TileLine.{TileLine}
 use Rattle.ice_chip.specs.declared.rows.TileKind.{TileKind}
-use Rattle.ice_bits.specs.Configuration.{Bits, Configuration, bit_in, bit_at, rows_at, bits_of, kind_in, is_in, is_there, same_place, AreGrids, blank_rows, blank_tile, kind_of_tile, blank}
+use Rattle.ice_bits.specs.Configuration.{Bits, Configuration, bit_in, bit_at, rows_at, bits_of, same_place}
+use Rattle.ice_bits.specs.Grids.{kind_in, is_in, is_there, AreGrids, blank_rows, blank_tile, kind_of_tile, blank}
 use Rattle.ice_bits.specs.Written.{with_bit, with_bits}
 use Rattle.ice_bits.specs.Rewriting.{where_there, Rewrites, rows_with, tiles_with, with_place, with_places, with_row}
 use Rattle.ice_bits.specs.TileForms.{blank_at, kind_of}

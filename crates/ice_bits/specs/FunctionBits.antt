@@ -2,10 +2,11 @@
 use Rattle.std.specs.Prelude.{◌≡◌, ℕ, Bool, false, Option, None, Some, slice_get, if◌then◌else◌}
 use Rattle.std.specs.Option.{option_map_or, option_and_then}
 use Rattle.ice_base.specs.declared.number.TileAt.{TileAt}
-use Rattle.ice_base.specs.declared.number.BitAt.{BitAt}
+use Rattle.ice_base.specs.declared.bit.BitAt.{BitAt}
 use Rattle.ice_chip.specs.Database.{Parts, FunctionRow}
 use Rattle.ice_chip.specs.Lookups.{kind_at, function_of}
-use Rattle.ice_bits.specs.Configuration.{Bits, Configuration, IsOf, bits_of, kind_in, is_of_kind, is_there}
+use Rattle.ice_bits.specs.Configuration.{Bits, Configuration, bits_of}
+use Rattle.ice_bits.specs.Grids.{IsOf, kind_in, is_of_kind, is_there}
 use Rattle.ice_bits.specs.Settings.{set_at}
 use Rattle.ice_bits.specs.Written.{with_bit}
 

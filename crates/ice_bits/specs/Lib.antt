@@ -1,5 +1,7 @@
 pub mod Configuration
+pub mod Grids
 pub mod Settings
+pub mod LackedFunctions
 pub mod FunctionBits
 pub mod Written
 pub mod Rewriting

@@ -2,10 +2,11 @@
 use Rattle.std.specs.Prelude.{◌≡◌, ℕ, Bool, false, List, [], ◌∷◌, ◌++◌, slice_get, slice_set, slice_index_or, if◌then◌else◌}
 use Rattle.std.specs.Option.{option_map_or}
 use Rattle.ice_base.specs.declared.number.TileAt.{TileAt}
-use Rattle.ice_base.specs.declared.number.BitAt.{BitAt}
+use Rattle.ice_base.specs.declared.bit.BitAt.{BitAt}
 use Rattle.ice_chip.specs.Database.{Parts, same_tile}
-use Rattle.ice_chip.specs.Lookups.{rows_of}
-use Rattle.ice_bits.specs.Configuration.{Bits, Configuration, bits_of, kind_in, is_there, IsOf}
+use Rattle.ice_chip.specs.Listings.{rows_of}
+use Rattle.ice_bits.specs.Configuration.{Bits, Configuration, bits_of}
+use Rattle.ice_bits.specs.Grids.{kind_in, is_there, IsOf}
 use Rattle.ice_bits.specs.Written.{with_bits}
 
 -- ---- the promise of each call that writes

@@ -4,7 +4,7 @@ use Rattle.ice_base.specs.declared.number.TileAt.{TileAt}
 use Rattle.ice_chip.specs.Database.{columns}
 use Rattle.ice_chip.specs.declared.rows.TileKind.{TileKind}
 use Rattle.ice_chip.specs.declared.tile.Tile.{Tile}
-use Rattle.ice_bits.specs.Configuration.{blank_rows}
+use Rattle.ice_bits.specs.Grids.{blank_rows}
 
 abbrev pub kind_of : Tile → TileKind
 kind_of tile = tile.kind

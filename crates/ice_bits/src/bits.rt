@@ -1,9 +1,10 @@
 //! The configuration bits of all tiles of a chip.
 ghost use Rattle.std.specs.Prelude.{◌≡◌, ◌<◌, true, false, Some, length, map, option_map, IfOk, OnOk, OnErr};
 ghost use Rattle.ice_base.specs.declared.number.TileAt.{TileAt};
-ghost use Rattle.ice_base.specs.declared.number.BitAt.{BitAt};
-ghost use Rattle.ice_chip.specs.Lookups.{rows_of};
-ghost use Rattle.ice_bits.specs.Configuration.{Configuration, bits_of, rows_at, kind_in, is_of_kind, is_there, blank, IsOf};
+ghost use Rattle.ice_base.specs.declared.bit.BitAt.{BitAt};
+ghost use Rattle.ice_chip.specs.Listings.{rows_of};
+ghost use Rattle.ice_bits.specs.Configuration.{Configuration, bits_of, rows_at};
+ghost use Rattle.ice_bits.specs.Grids.{kind_in, is_of_kind, is_there, blank, IsOf};
 ghost use Rattle.ice_bits.specs.Written.{with_bit};
 ghost use Rattle.ice_bits.specs.Rewriting.{where_there, Rewrites, with_row, with_rows, with_place, with_places, with_extra};
 ghost use Rattle.ice_bits.specs.FunctionBits.{bit_place, function_value, with_function};
@@ -174,7 +175,8 @@ impl Bits {
     /// Writes the bit of a function with this number, from 0, in a tile. Nothing changes in a tile that isn't of the function's kind, and
     /// where the function has no such bit or the tile no such place. It takes no memory.
     pub fn set_function(&mut self, tile: TileAt, function: &Function, at: usize, value: bool)
-        ensures { Rewrites self.old self.new (with_function self.old tile (function_view function.now) at value) }
+        ensures { Rewrites self.old self.new
+            (with_function self.old tile (function_view function.now) at value) }
     {
         if let Some(bit) = self.function_place(tile, function, at) {
             self.set(tile, bit, value);
@@ -208,7 +210,8 @@ impl Bits {
     /// one of the chip's. It takes no memory.
     pub fn set_row(&mut self, chip: &Chip, row: RowNo)
         requires { row.0 < length (rows_of chip.now.groups) }
-        ensures { Rewrites self.old self.new (where_there self.old (with_row chip.now row.0 (bits_of self.old))) }
+        ensures { Rewrites self.old self.new
+            (where_there self.old (with_row chip.now row.0 (bits_of self.old))) }
     {
         let (group, row) = chip.row(row);
         self.write_all(group.tile, &group.bits, &row.values);

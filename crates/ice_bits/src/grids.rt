@@ -41,8 +41,8 @@ fn note_place(
     tile: TileAt,
     place: usize,
 ) -> Result<(), NoMemory>
-    ensures { OnOk result ((t : TileAt) → lookup (same_tile t) places.new.entries
-        ≡ option_or (lookup (same_tile t) places.old.entries) (lookup (same_tile t) ((tile, place) ∷ []))) }
+    ensures { OnOk result ((t : TileAt) → lookup (same_tile t) places.new.entries ≡ option_or
+        (lookup (same_tile t) places.old.entries) (lookup (same_tile t) ((tile, place) ∷ []))) }
 {
     if places.get(&tile).is_none() {
         places.insert(tile, place)?;
@@ -56,7 +56,8 @@ fn note_places(
     tiles: &[(TileAt, TileBits)],
 ) -> Result<(), NoMemory>
     requires { places.old.entries ≡ [] }
-    ensures { OnOk result ((t : TileAt) → lookup (same_tile t) places.new.entries ≡ place_in t tiles.now) }
+    ensures { OnOk result
+        ((t : TileAt) → lookup (same_tile t) places.new.entries ≡ place_in t tiles.now) }
 {
     for (place, held) in tiles.iter().enumerate() {
         note_place(places, held.0, place)?;
@@ -69,7 +70,8 @@ fn places_of(
     alloc: Global,
     tiles: &[(TileAt, TileBits)],
 ) -> Result<IndexMap<TileAt, usize>, NoMemory>
-    ensures { IfOk result (λ places. (t : TileAt) → lookup (same_tile t) places.entries ≡ place_in t tiles.now) }
+    ensures { IfOk result (λ places.
+        (t : TileAt) → lookup (same_tile t) places.entries ≡ place_in t tiles.now) }
 {
     let mut places = IndexMap::with_capacity(alloc, tiles.len())?;
     note_places(&mut places, tiles).and(Ok(places))

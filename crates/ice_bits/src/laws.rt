@@ -1,12 +1,13 @@
 //! Laws of configuration bits. The functions do nothing: their contracts are the laws.
 ghost use Rattle.std.specs.Prelude.{◌≡◌};
 ghost use Rattle.ice_base.specs.declared.number.TileAt.{TileAt};
-ghost use Rattle.ice_base.specs.declared.number.BitAt.{BitAt};
+ghost use Rattle.ice_base.specs.declared.bit.BitAt.{BitAt};
 ghost use Rattle.ice_chip.specs.Database.{Parts};
 ghost use Rattle.ice_chip.specs.Lookups.{kind_at};
-ghost use Rattle.ice_bits.specs.Configuration.{Configuration, IsOf, is_there, is_bit_of, kind_in};
+ghost use Rattle.ice_bits.specs.Configuration.{Configuration};
+ghost use Rattle.ice_bits.specs.Grids.{IsOf, is_there, is_bit_of, kind_in};
 ghost use Rattle.ice_bits.specs.FunctionBits.{ReadsByName};
-ghost use Rattle.ice_bits.specs.Settings.{OtherKindsReadZero};
+ghost use Rattle.ice_bits.specs.LackedFunctions.{OtherKindsReadZero};
 
 /// Bits of a chip have exactly the places that the kinds of its tiles have.
 pub fn chip_has_its_bits()
@@ -16,7 +17,8 @@ pub fn chip_has_its_bits()
 
 /// Bits of a chip have the kinds of its tiles.
 pub fn chip_has_its_kinds()
-    ensures { (parts : Parts) (k : Configuration) → IsOf parts k → (t : TileAt) → kind_in k t ≡ kind_at parts t }
+    ensures { (parts : Parts) (k : Configuration) → IsOf parts k → (t : TileAt)
+        → kind_in k t ≡ kind_at parts t }
 {}
 
 /// In a tile of its kind, the bit of one of a chip's functions is the one that the function's name says in the chip.

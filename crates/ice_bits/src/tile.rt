@@ -1,6 +1,7 @@
 //! The configuration bits of one tile.
 ghost use Rattle.std.specs.Prelude.{◌≡◌, [], ◌∷◌, ◌++◌, length, slice_set, IfOk, OnOk, OnErr};
-ghost use Rattle.ice_bits.specs.Configuration.{bit_in, is_in, blank_rows};
+ghost use Rattle.ice_bits.specs.Configuration.{bit_in};
+ghost use Rattle.ice_bits.specs.Grids.{is_in, blank_rows};
 ghost use Rattle.ice_bits.specs.Rewriting.{rows_with};
 ghost use Rattle.ice_bits.specs.TileRows.{rows_view};
 

@@ -1,14 +1,20 @@
--- Rows whose values rise.
-use Rattle.std.proofs.Common.{◌≡◌, ℕ, zero, suc, ◌+◌, ◌<◌, ◌≤◌, Bool, true, false, cond, List, [], ◌∷◌, Some, length, drop, get_or, slice_get, refl, sym, ap, subst, ◌∙◌, arith, true≢false}
-use Rattle.std.specs.Prelude.{◌&&◌, ◌==◌, not, min}
+-- Rows whose values rise or differ.
+use Rattle.std.proofs.Common.{◌≡◌, ℕ, zero, suc, ◌+◌, ◌<◌, ◌≤◌, Bool, true, false, cond, List, [], ◌∷◌, Some, length, map, drop, get_or, slice_get, refl, sym, ap, subst, ◌∙◌, arith, true≢false}
+use Rattle.std.specs.Prelude.{◌&&◌, ◌||◌, ◌==◌, not, min}
 use Rattle.std.specs.Bool.{beq}
 use Rattle.std.specs.List.{list_any}
 use Rattle.std.specs.Cmp.Lexicographic.{pointwise}
-use Rattle.std.proofs.lemmas.Bool.{and_parts}
+use Rattle.std.proofs.lemmas.Bool.{and_parts, or_parts}
+use Rattle.std.proofs.lemmas.List.{at_drop_more}
 use Rattle.ice_base.proofs.Keys.{nat_same}
+use Rattle.ice_base.specs.declared.bit.BitAt.{BitAt}
 use Rattle.ice_chip.specs.Database.{SwitchRow}
+use Rattle.ice_chip.specs.Views.{row_view}
+use Rattle.ice_chip.specs.declared.sections.Row.{Row}
 use Rattle.ice_bits.specs.Settings.{number_with}
-use Rattle.ice_bits_rows.specs.Plain.{is_above, do_rise}
+use Rattle.ice_bits_rows.specs.Bundles.{has_bit}
+use Rattle.ice_bits_rows.specs.Own.{each_once}
+use Rattle.ice_bits_rows.specs.Plain.{differs, do_differ, do_rise, has_again, is_above}
 
 -- ---- two lists of values that are compared from the front
 after : (values others : List Bool) (k : ℕ) (d e : Bool) → k < length values → k < length others
@@ -89,3 +95,61 @@ risen count n low (x ∷ rows) (suc k) r e at =
     let later = risen count (n + 1) x.values rows k r parts.1 at in
     let there : (n + 1) + k ≡ n + suc k = omega arith in
     (later.0, above_again r.values x.values low later.1 first.1, ap (λ b. cond b (Some n) (number_with r.values (n + 1) rows)) (differ r.values x.values later.1) ∙ later.2 ∙ ap Some there)
+
+-- ---- rows whose values differ
+none_at : (test : SwitchRow → Bool) (rows : List SwitchRow) (k : ℕ) (r : SwitchRow) → list_any test rows ≡ false → slice_get rows k ≡ Some r → test r ≡ false
+none_at test [] k r e at = absurd (cc)
+none_at test (x ∷ rows) zero r e at = let same : x ≡ r = cc at in ap test (sym same) ∙ (or_parts (test x) (list_any test rows) e).0
+none_at test (x ∷ rows) (suc k) r e at = none_at test rows k r (or_parts (test x) (list_any test rows) e).1 at
+
+off : (b : Bool) → not b ≡ true → b ≡ false
+off true e = absurd (true≢false (sym e))
+off false e = refl
+
+differing : (count n : ℕ) (rows : List SwitchRow) (k : ℕ) (r : SwitchRow) → do_differ count rows ≡ true → slice_get rows k ≡ Some r
+    → (length r.values ≡ count) × (list_any (λ v. v) r.values ≡ true) × (number_with r.values n rows ≡ Some (n + k))
+differing count n [] k r e at = absurd (cc)
+differing count n (x ∷ rows) zero r e at =
+    let same : x ≡ r = cc at in
+    let parts = and_parts (differs count x rows) (do_differ count rows) e in
+    let first = and_parts ((length x.values == count) && list_any (λ v. v) x.values) (not (has_again x.values rows)) parts.0 in
+    let own = and_parts (length x.values == count) (list_any (λ v. v) x.values) first.0 in
+    let here : n ≡ n + 0 = omega arith in
+    subst (λ (y : SwitchRow). (length y.values ≡ count) × (list_any (λ v. v) y.values ≡ true) × (number_with y.values n (x ∷ rows) ≡ Some (n + 0))) same
+    (nat_same (length x.values) count own.0, own.1, ap (λ b. cond b (Some n) (number_with x.values (n + 1) rows)) (alike x.values) ∙ ap Some here)
+differing count n (x ∷ rows) (suc k) r e at =
+    let parts = and_parts (differs count x rows) (do_differ count rows) e in
+    let first = and_parts ((length x.values == count) && list_any (λ v. v) x.values) (not (has_again x.values rows)) parts.0 in
+    let other : pointwise beq x.values r.values ≡ false = none_at (λ o. pointwise beq x.values o.values) rows k r (off (has_again x.values rows) first.1) at in
+    let later = differing count (n + 1) rows k r parts.1 at in
+    let there : (n + 1) + k ≡ n + suc k = omega arith in
+    (later.0, later.1, ap (λ b. cond b (Some n) (number_with r.values (n + 1) rows)) other ∙ later.2 ∙ ap Some there)
+
+-- a row among those that rise or differ
+pub told_apart : (count n : ℕ) (rows : List SwitchRow) (k : ℕ) (r : SwitchRow) → (do_rise count [] rows || do_differ count rows) ≡ true → slice_get rows k ≡ Some r
+    → (length r.values ≡ count) × (list_any (λ v. v) r.values ≡ true) × (number_with r.values n rows ≡ Some (n + k))
+told_apart count n rows k r e at = by (do_rise count [] rows) refl e
+  where
+    by : (rise : Bool) → do_rise count [] rows ≡ rise → (rise || do_differ count rows) ≡ true
+        → (length r.values ≡ count) × (list_any (λ v. v) r.values ≡ true) × (number_with r.values n rows ≡ Some (n + k))
+    by true is all = let row = risen count n [] rows k r is at in (row.0, sym (above_none r.values) ∙ row.1, row.2)
+    by false is all = differing count n rows k r all at
+
+-- ---- loops over rows and bits
+pub differ_on : (count : ℕ) (rows : List Row) (k : ℕ) (d : Row) → k < length rows → differs count (row_view (get_or rows k d)) (map row_view (drop (k + 1) rows)) ≡ true
+    → do_differ count (map row_view (drop k rows)) ≡ do_differ count (map row_view (drop (k + 1) rows))
+differ_on count rows k d lt is =
+    at_drop_more (λ (rs : List Row). do_differ count (map row_view rs)) rows k d lt
+    ∙ ap (λ b. b && do_differ count (map row_view (drop (k + 1) rows))) is
+
+pub differ_not : (count : ℕ) (rows : List Row) (k : ℕ) (d : Row) → k < length rows → differs count (row_view (get_or rows k d)) (map row_view (drop (k + 1) rows)) ≡ false
+    → do_differ count (map row_view (drop k rows)) ≡ false
+differ_not count rows k d lt is =
+    at_drop_more (λ (rs : List Row). do_differ count (map row_view rs)) rows k d lt
+    ∙ ap (λ b. b && do_differ count (map row_view (drop (k + 1) rows))) is
+
+pub once_on : (bits : List BitAt) (k : ℕ) (d : BitAt) → k < length bits → has_bit (drop (k + 1) bits) (get_or bits k d) ≡ false → each_once (drop k bits) ≡ each_once (drop (k + 1) bits)
+once_on bits k d lt is = at_drop_more each_once bits k d lt ∙ ap (λ b. not b && each_once (drop (k + 1) bits)) is
+
+pub once_not : (bits : List BitAt) (k : ℕ) (d : BitAt) → k < length bits → has_bit (drop (k + 1) bits) (get_or bits k d) ≡ true → each_once (drop k bits) ≡ false
+once_not bits k d lt is = at_drop_more each_once bits k d lt ∙ ap (λ b. not b && each_once (drop (k + 1) bits)) is

@@ -5,12 +5,13 @@ use Rattle.std.specs.Option.{option_map}
 use Rattle.std.specs.Borrow.{Bor}
 use Rattle.std.proofs.lemmas.Option.{slice_get-map, slice_get-get_or}
 use Rattle.std.proofs.lemmas.List.Elements.{All-get_or, All-tail, All-head, All-cons, All-nil, All-filter}
-use Rattle.ice_chip.specs.Database.{Parts, SwitchGroup, most_rows}
+use Rattle.ice_chip.specs.Database.{Parts, SwitchGroup}
+use Rattle.ice_chip.specs.Limits.{most_rows}
 use Rattle.ice_chip.specs.IsRead.{HasWiresBelow, AreNumbered, IsRead}
-use Rattle.ice_chip.specs.Lookups.{rows_of}
+use Rattle.ice_chip.specs.Listings.{rows_of}
 use Rattle.ice_chip.specs.Views.{row_view, group_view}
-use Rattle.ice_chip.specs.declared.rows.Row.{Row}
-use Rattle.ice_chip.specs.declared.rows.Group.{Group}
+use Rattle.ice_chip.specs.declared.sections.Row.{Row}
+use Rattle.ice_chip.specs.declared.sections.Group.{Group}
 use Rattle.ice_chip.proofs.GroupRows.{rows_count}
 use Rattle.ice_bits_rows.specs.Bundles.{groups_into}
 use Rattle.ice_bits_rows.specs.Lists.{views}

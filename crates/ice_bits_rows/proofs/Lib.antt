@@ -2,7 +2,7 @@ mod OneOn
 mod Listing
 mod Values
 mod Shares
-mod Foreign
+mod ForeignBits
 mod Own
 mod Alike
 mod Pins
@@ -12,3 +12,4 @@ mod Passing
 pub mod WireUses
 pub mod Taken
 pub mod Known
+mod Blocks

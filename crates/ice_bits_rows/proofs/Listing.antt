@@ -8,7 +8,7 @@ use Rattle.std.specs.declared.alloc.Global.{Global}
 use Rattle.ice_chip.specs.Database.{SwitchGroup}
 use Rattle.ice_chip.specs.IsRead.{HasWiresBelow}
 use Rattle.ice_chip.specs.Views.{group_view}
-use Rattle.ice_chip.specs.declared.rows.Group.{Group}
+use Rattle.ice_chip.specs.declared.sections.Group.{Group}
 use Rattle.ice_bits_rows.specs.Bundles.{groups_into}
 use Rattle.ice_bits_rows.specs.Lists.{views, lists_of, with_listed, listed}
 

@@ -1,4 +1,4 @@
--- A group whose rows rise, and whose bits no other group of its bundle has.
+-- A group whose rows differ, and whose bits no other group of its bundle has.
 use Rattle.std.proofs.Common.{◌≡◌, ℕ, zero, suc, ◌+◌, ◌<◌, Bool, true, false, cond, None, Some, List, [], ◌∷◌, ◌++◌, length, map, slice_index_or, refl, sym, ap, subst, ◌∙◌, arith, true≢false}
 use Rattle.std.specs.Prelude.{◌&&◌, ◌||◌, ◌==◌, filter}
 use Rattle.std.specs.List.{list_any, Contains}
@@ -6,18 +6,18 @@ use Rattle.std.specs.Cmp.Lexicographic.{pointwise}
 use Rattle.std.proofs.lemmas.Bool.{and_parts, and_right, or_parts, or_from}
 use Rattle.ice_base.proofs.Keys.{nat_self, tile_self, place_self}
 use Rattle.ice_base.specs.declared.number.TileAt.{TileAt}
-use Rattle.ice_base.specs.declared.number.BitAt.{BitAt}
+use Rattle.ice_base.specs.declared.bit.BitAt.{BitAt}
 use Rattle.ice_base.specs.Places.{same_place}
 use Rattle.ice_chip.specs.Database.{SwitchRow, SwitchGroup, same_tile}
 use Rattle.ice_bits.specs.Settings.{values_of, number_with, row_on, rows_on}
 use Rattle.ice_bits_rows.specs.Bundles.{groups_into, has_bit}
-use Rattle.ice_bits_rows.specs.Own.{rises_from}
+use Rattle.ice_bits_rows.specs.Own.{each_once}
 use Rattle.ice_bits_rows.specs.Sound.{value_at, sets, is_one}
 use Rattle.ice_bits_rows.specs.Alone.{in_tile, on_there, listed_one}
-use Rattle.ice_bits_rows.specs.Plain.{do_rise, is_meeting, meets_one, is_plain, AreAlone}
+use Rattle.ice_bits_rows.specs.Plain.{do_differ, do_rise, is_meeting, meets_one, is_plain, AreAlone}
 use Rattle.ice_bits_rows.proofs.OneOn.{on_first}
 use Rattle.ice_bits_rows.proofs.Own.{no_value, own_values}
-use Rattle.ice_bits_rows.proofs.Ascent.{above_none, risen}
+use Rattle.ice_bits_rows.proofs.Ascent.{told_apart}
 
 -- ---- groups that have no bit of the group
 no_one : (g : SwitchGroup) (r : SwitchRow) (tile : TileAt) (bits : List BitAt) → list_any (has_bit g.bits) bits ≡ false → list_any (λ v. v) (map (sets g r tile) bits) ≡ false
@@ -99,19 +99,20 @@ same_bits : (bits : List BitAt) → pointwise same_place bits bits ≡ true
 same_bits [] = refl
 same_bits (p ∷ bits) = rw (place_self p) (same_bits bits)
 
-own_on : (g : SwitchGroup) (r : SwitchRow) (n : ℕ) → rises_from 0 g.bits ≡ true → length r.values ≡ length g.bits → list_any (λ v. v) r.values ≡ true → number_with r.values g.first g.rows ≡ Some n
+own_on : (g : SwitchGroup) (r : SwitchRow) (n : ℕ) → each_once g.bits ≡ true → length r.values ≡ length g.bits → list_any (λ v. v) r.values ≡ true → number_with r.values g.first g.rows ≡ Some n
     → row_on (sets g r) g ≡ Some n
-own_on g r n rising long one number =
-    ap (λ values. cond (list_any (λ v. v) values) (number_with values g.first g.rows) None) (own_values g r g (tile_self g.tile) long (same_bits g.bits) rising)
+own_on g r n once long one number =
+    ap (λ values. cond (list_any (λ v. v) values) (number_with values g.first g.rows) None) (own_values g r g (tile_self g.tile) long (same_bits g.bits) once)
     ∙ ap (λ b. cond b (number_with r.values g.first g.rows) None) one
     ∙ number
 
 pub plain_rows : (groups : List SwitchGroup) (g : SwitchGroup) → Contains groups g → is_plain groups g ≡ true → AreAlone groups g
 plain_rows groups g member e k r at =
-    let parts = and_parts (rises_from 0 g.bits && do_rise (length g.bits) [] g.rows) (meets_one g false (groups_into groups g.wire)) e in
-    let own = and_parts (rises_from 0 g.bits) (do_rise (length g.bits) [] g.rows) parts.0 in
-    let row = risen (length g.bits) g.first [] g.rows k r own.1 at in
-    let one : list_any (λ v. v) r.values ≡ true = sym (above_none r.values) ∙ row.1 in
+    let told = do_rise (length g.bits) [] g.rows || do_differ (length g.bits) g.rows in
+    let parts = and_parts (each_once g.bits && told) (meets_one g false (groups_into groups g.wire)) e in
+    let own = and_parts (each_once g.bits) told parts.0 in
+    let row = told_apart (length g.bits) g.first g.rows k r own.1 at in
+    let one : list_any (λ v. v) r.values ≡ true = row.1 in
     let on : row_on (sets g r) g ≡ Some (g.first + k) = own_on g r (g.first + k) own.0 row.0 one row.2 in
     let meets : is_meeting g g ≡ true = ap (λ b. b && list_any (has_bit g.bits) g.bits) (tile_self g.tile) ∙ some_bit g.bits r.values row.0 one in
     let inside = in_filter (λ x. x.wire == g.wire) groups g member.0 (nat_self g.wire) member.1 member.2 in

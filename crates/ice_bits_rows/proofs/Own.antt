@@ -1,15 +1,15 @@
--- The values of a row in the bits of its own group, where these stand in the order of their places.
+-- The values of a row in the bits of its own group, where none of these stands twice.
 use Rattle.std.proofs.Common.{◌≡◌, ℕ, ◌+◌, ◌<◌, ◌≤◌, nat_lt, Bool, true, false, cond, List, [], ◌∷◌, length, map, refl, ap, sym, ◌∙◌, arith, true≢false}
-use Rattle.std.specs.Prelude.{◌&&◌, ◌||◌}
+use Rattle.std.specs.Prelude.{◌&&◌, ◌||◌, not}
 use Rattle.std.specs.Cmp.Lexicographic.{pointwise}
 use Rattle.std.proofs.lemmas.Bool.{and_parts, and_left, or_parts, or_from, ltb-false}
 use Rattle.ice_base.proofs.Keys.{place_self, place_same}
-use Rattle.ice_base.specs.declared.number.BitAt.{BitAt}
+use Rattle.ice_base.specs.declared.bit.BitAt.{BitAt}
 use Rattle.ice_base.specs.Places.{same_tile, same_place}
 use Rattle.ice_chip.specs.Database.{SwitchRow, SwitchGroup}
 use Rattle.ice_bits.specs.Settings.{values_of}
 use Rattle.ice_bits_rows.specs.Bundles.{has_bit}
-use Rattle.ice_bits_rows.specs.Own.{place_code, rises_from}
+use Rattle.ice_bits_rows.specs.Own.{each_once, place_code, rises_from}
 use Rattle.ice_bits_rows.specs.Sound.{value_at, sets}
 
 -- lists that agree place by place are one list
@@ -64,23 +64,35 @@ above low (q ∷ bits) p e lt =
     apart false is less = refl
     apart true is less = (let same : place_code q ≡ place_code p = ap place_code (place_same q p is) in absurd (omega (arith, same, less)))
 
-values_again : (low : ℕ) (bits : List BitAt) (values : List Bool) → rises_from low bits ≡ true → length values ≡ length bits → map (value_at bits values) bits ≡ values
-values_again low [] [] e long = refl
-values_again low [] (v ∷ values) e long = absurd (omega (arith, long))
-values_again low (p ∷ bits) [] e long = absurd (omega (arith, long))
-values_again low (p ∷ bits) (v ∷ values) e long =
+-- bits that rise stand once
+pub rises_once : (low : ℕ) (bits : List BitAt) → rises_from low bits ≡ true → each_once bits ≡ true
+rises_once low [] e = refl
+rises_once low (p ∷ bits) e =
     let parts = risen (nat_lt (place_code p) low) (rises_from (place_code p + 1) bits) e in
     let once : has_bit bits p ≡ false = above (place_code p + 1) bits p parts.1 (omega arith) in
+    rw once (rises_once (place_code p + 1) bits parts.1)
+
+off : (b : Bool) → not b ≡ true → b ≡ false
+off true e = absurd (true≢false (sym e))
+off false e = refl
+
+values_again : (bits : List BitAt) (values : List Bool) → each_once bits ≡ true → length values ≡ length bits → map (value_at bits values) bits ≡ values
+values_again [] [] e long = refl
+values_again [] (v ∷ values) e long = absurd (omega (arith, long))
+values_again (p ∷ bits) [] e long = absurd (omega (arith, long))
+values_again (p ∷ bits) (v ∷ values) e long =
+    let parts = and_parts (not (has_bit bits p)) (each_once bits) e in
+    let once : has_bit bits p ≡ false = off (has_bit bits p) parts.0 in
     ap (λ x. ((x && v) || value_at bits values p) ∷ map (value_at (p ∷ bits) (v ∷ values)) bits) (place_self p)
     ∙ ap (λ x. x ∷ map (value_at (p ∷ bits) (v ∷ values)) bits) (or_itself v (value_at bits values p) (no_value bits values p once))
-    ∙ ap (λ xs. v ∷ xs) (later_values p v bits values bits once ∙ values_again (place_code p + 1) bits values parts.1 (omega (arith, long)))
+    ∙ ap (λ xs. v ∷ xs) (later_values p v bits values bits once ∙ values_again bits values parts.1 (omega (arith, long)))
 
 all_there : (same : Bool) (f : BitAt → Bool) (bits : List BitAt) → same ≡ true → map (λ b. same && f b) bits ≡ map f bits
 all_there same f bits e = ap (λ x. map (λ b. x && f b) bits) e
 
-pub own_values : (g : SwitchGroup) (r : SwitchRow) (other : SwitchGroup) → same_tile g.tile other.tile ≡ true → length r.values ≡ length g.bits → pointwise same_place g.bits other.bits ≡ true → rises_from 0 g.bits ≡ true
+pub own_values : (g : SwitchGroup) (r : SwitchRow) (other : SwitchGroup) → same_tile g.tile other.tile ≡ true → length r.values ≡ length g.bits → pointwise same_place g.bits other.bits ≡ true → each_once g.bits ≡ true
     → values_of (sets g r) other ≡ r.values
-own_values g r other tile long same rising =
+own_values g r other tile long same once =
     all_there (same_tile g.tile other.tile) (value_at g.bits r.values) other.bits tile
     ∙ ap (map (value_at g.bits r.values)) (sym (same_bits g.bits other.bits same))
-    ∙ values_again 0 g.bits r.values rising long
+    ∙ values_again g.bits r.values once long

@@ -5,7 +5,7 @@ use Rattle.std.proofs.lemmas.Bool.{and_parts, eqb-true, eq-eqb}
 use Rattle.ice_base.proofs.Booleans.{or_true, or_false, or_assoc}
 use Rattle.ice_base.proofs.Keys.{tile_same, place_same}
 use Rattle.ice_base.specs.declared.number.TileAt.{TileAt}
-use Rattle.ice_base.specs.declared.number.BitAt.{BitAt}
+use Rattle.ice_base.specs.declared.bit.BitAt.{BitAt}
 use Rattle.ice_chip.specs.Database.{same_tile}
 use Rattle.ice_base.specs.Places.{same_place}
 use Rattle.ice_bits_rows.specs.Owners.{same_key, owner_with, is_other}
@@ -60,8 +60,3 @@ one_more f tile bit v t b w new rest noted = step (same_tile tile t) (same_place
 -- a group more: what was noted, then the group, then the others
 pub group_more : (old new here rest : Bool) → new ≡ (old || here) → (new || rest) ≡ (old || (here || rest))
 group_more old new here rest e = ap (λ z. z || rest) e ∙ or_assoc old here rest
-
--- what is held of a bit, put twice in the place of what was
-pub put_twice : (same : Bool) (first more : Owner) (old middle new : Option Owner) → middle ≡ cond same (Some first) old → new ≡ cond same (Some more) middle → new ≡ cond same (Some more) old
-put_twice true first more old middle new e f = f
-put_twice false first more old middle new e f = f ∙ e

@@ -4,7 +4,7 @@ use Rattle.std.specs.Prelude.{◌&&◌, ◌||◌, not, min}
 use Rattle.std.specs.Bool.{beq}
 use Rattle.std.specs.Cmp.Lexicographic.{pointwise}
 use Rattle.ice_base.proofs.Booleans.{and_false}
-use Rattle.ice_base.specs.declared.number.BitAt.{BitAt}
+use Rattle.ice_base.specs.declared.bit.BitAt.{BitAt}
 use Rattle.ice_base.specs.Places.{same_place}
 use Rattle.ice_bits_rows.specs.Sound.{value_at}
 use Rattle.ice_bits_rows.proofs.Alike.{kept}

@@ -1,13 +1,14 @@
 -- Bundles: the groups of a tile into a wire.
-use Rattle.std.specs.Prelude.{ℕ, ◌==◌, Bool, false, not, ◌&&◌, ◌||◌, Option, None, Some, List, filter}
+use Rattle.std.specs.Prelude.{◌≡◌, ℕ, ◌==◌, Bool, false, not, ◌&&◌, ◌||◌, Option, None, Some, List, filter}
 use Rattle.std.specs.List.{list_any}
 use Rattle.ice_base.specs.declared.number.TileAt.{TileAt}
-use Rattle.ice_base.specs.declared.number.BitAt.{BitAt}
+use Rattle.ice_base.specs.declared.bit.BitAt.{BitAt}
 use Rattle.ice_chip.specs.Database.{Parts, FunctionRow, SwitchGroup, same_tile}
 use Rattle.ice_base.specs.Places.{same_place}
 use Rattle.ice_chip.specs.Lookups.{kind_at}
 use Rattle.ice_chip.specs.Functions.{same_kind, is_foreign}
 use Rattle.ice_chip.specs.declared.rows.TileKind.{TileKind}
+use Rattle.ice_chip.specs.declared.rows.TileKind.TheVariants.{Io}
 
 -- all groups into a wire
 abbrev pub groups_into : List SwitchGroup → ℕ → List SwitchGroup
@@ -29,6 +30,10 @@ is_of_other groups tile wire b = list_any (λ g. same_tile g.tile tile && not (g
 abbrev pub is_of_function : List FunctionRow → Option TileKind → BitAt → Bool
 is_of_function functions None b = false
 is_of_function functions (Some kind) b = list_any (λ f. same_kind f.kind kind && is_foreign f.kind f.name && has_bit f.bits b) functions
+
+-- these are the bits of the foreign functions of IO tiles
+abbrev pub AreForeign : List FunctionRow → List BitAt → Type 0
+AreForeign functions bits = (b : BitAt) → has_bit bits b ≡ is_of_function functions (Some Io) b
 
 abbrev pub is_shared : Parts → TileAt → ℕ → BitAt → Bool
 is_shared parts tile wire b = is_of_other parts.groups tile wire b || is_of_function parts.functions (kind_at parts tile) b

@@ -4,7 +4,7 @@ use Rattle.std.specs.Borrow.{Bor}
 use Rattle.std.specs.declared.alloc.Global.{Global}
 use Rattle.ice_chip.specs.Database.{SwitchGroup}
 use Rattle.ice_chip.specs.Views.{group_view}
-use Rattle.ice_chip.specs.declared.rows.Group.{Group}
+use Rattle.ice_chip.specs.declared.sections.Group.{Group}
 
 abbrev pub views : List (Bor Group) → List SwitchGroup
 views groups = map (λ g. group_view g.now) groups

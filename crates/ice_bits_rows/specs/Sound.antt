@@ -1,6 +1,6 @@
 -- Sound rows: their values turn them on, and nothing else.
 use Rattle.std.specs.Prelude.{ℕ, ◌==◌, Bool, false, not, ◌&&◌, ◌||◌, List, [], ◌∷◌}
-use Rattle.ice_base.specs.declared.number.BitAt.{BitAt}
+use Rattle.ice_base.specs.declared.bit.BitAt.{BitAt}
 use Rattle.ice_chip.specs.Database.{Parts, SwitchRow, SwitchGroup, same_tile}
 use Rattle.ice_base.specs.Places.{same_place}
 use Rattle.ice_bits.specs.Configuration.{Bits}

@@ -11,7 +11,8 @@ use ice_chip::{Group, Row};
 
 // The number of the row that is on of another group under the values of a row, where that group is of the row's tile.
 fn on_there(group: &Group, row: &Row, other: &Group) -> Option<usize>
-    ensures { result ≡ on_there (sets (group_view group.now) (row_view row.now)) group.now.tile (group_view other.now) }
+    ensures { result ≡ on_there (sets (group_view group.now) (row_view row.now))
+        group.now.tile (group_view other.now) }
 {
     if other.tile != group.tile {
         return None;
@@ -53,8 +54,8 @@ fn is_number(on: Option<usize>, number: usize) -> bool
 /// that group's tile in a list.
 #[tactic(auto, using(crate::proofs::OneOn::two, crate::proofs::OneOn::one_more, crate::proofs::OneOn::last))]
 pub fn is_alone(groups: &[&Group], group: &Group, number: usize, row: &Row) -> bool
-    ensures { result
-        ≡ is_one number (rows_on (sets (group_view group.now) (row_view row.now)) (in_tile group.now.tile (views groups.now))) }
+    ensures { result ≡ is_one number (rows_on (sets (group_view group.now) (row_view row.now))
+        (in_tile group.now.tile (views groups.now))) }
 {
     let mut on = None;
     for other in groups {

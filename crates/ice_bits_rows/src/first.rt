@@ -1,7 +1,7 @@
 //! Rows that lead from one wire to another.
 ghost use Rattle.std.specs.Prelude.{◌≡◌, ◌≤◌, ◌+◌, length, option_map};
 ghost use Rattle.ice_chip.specs.IsRead.{HasWiresBelow};
-ghost use Rattle.ice_chip.specs.Database.{most_rows};
+ghost use Rattle.ice_chip.specs.Limits.{most_rows};
 ghost use Rattle.ice_chip.specs.Views.{row_view, group_view};
 ghost use Rattle.ice_bits_rows.specs.FirstSound.{first_of, first_sound, some_usable, is_joined};
 
@@ -15,8 +15,8 @@ use ice_chip::Group;
 fn first_of(index: &Index, source: WireNo, group: &Group) -> Option<RowNo>
     requires wires { HasWiresBelow index.now.chip.now.wires (group_view group.now) }
     requires few { group.now.first.0 + length group.now.rows.items ≤ most_rows }
-    ensures { option_map (λ row. row.0) result
-        ≡ first_of index.now.chip.now source.0 (group_view group.now) group.now.first.0 (group_view group.now).rows }
+    ensures { option_map (λ row. row.0) result ≡ first_of index.now.chip.now source.0
+        (group_view group.now) group.now.first.0 (group_view group.now).rows }
 {
     for k in 0..group.rows.len() {
         let row = &group.rows[k];
@@ -46,8 +46,8 @@ pub fn first_sound(index: &Index, source: WireNo, target: WireNo) -> Option<RowN
 fn has_usable(index: &Index, source: WireNo, group: &Group) -> bool
     requires wires { HasWiresBelow index.now.chip.now.wires (group_view group.now) }
     requires few { group.now.first.0 + length group.now.rows.items ≤ most_rows }
-    ensures { result
-        ≡ some_usable index.now.chip.now source.0 (group_view group.now) group.now.first.0 (group_view group.now).rows }
+    ensures { result ≡ some_usable index.now.chip.now source.0 (group_view group.now)
+        group.now.first.0 (group_view group.now).rows }
 {
     for k in 0..group.rows.len() {
         let row = &group.rows[k];

@@ -1,15 +1,17 @@
 //! An index of a chip's groups: those into each wire, and the wires of each bit.
-ghost use Rattle.std.specs.Prelude.{◌≡◌, ◌<◌, [], replicate, IfOk};
-ghost use Rattle.ice_bits_rows.specs.Bundles.{groups_into, is_of_other};
+ghost use Rattle.std.specs.Prelude.{◌≡◌, ◌<◌, [], Some, replicate, IfOk};
+ghost use Rattle.ice_bits_rows.specs.Bundles.{groups_into, is_of_function, AreForeign};
+ghost use Rattle.ice_chip.specs.declared.rows.TileKind.TheVariants.{Io};
 ghost use Rattle.ice_bits_rows.specs.Lists.{views, lists_of, listed};
-ghost use Rattle.ice_bits_rows.specs.Owners.{AreOwners};
+ghost use Rattle.ice_bits_rows.specs.Owners.{AreOwners, IsBlockOf};
 
+use crate::bundle::has_bit;
+use crate::foreign::foreign_bits;
 use crate::lists::groups_by_wire;
-use crate::owners::{Owner, is_other, owners_of};
+use crate::owners::{Owner, Owners, block_of, owners_of};
 use ice_base::{BitAt, NoMemory, TileAt, WireNo};
 use ice_chip::{Chip, Group};
 use std::alloc::Global;
-use std::collections::HashMap;
 
 /// A chip whose groups are found at once by the wire into which they lead, and the wires by the bits of their groups.
 #[derive(Drop)]
@@ -19,9 +21,13 @@ pub struct Index<'a> {
     // The groups into each wire, in order.
     into: Vec<Vec<&'a Group>>,
     // The wires of each bit.
-    owners: HashMap<(TileAt, BitAt), Owner>,
-    ghost are_listed: { lists_of into.items ≡ listed (replicate chip.now.wires []) chip.now.groups },
+    owners: Owners,
+    // The bits of the foreign functions of IO tiles.
+    foreign: Vec<BitAt>,
+    ghost are_listed: { lists_of into.items
+        ≡ listed (replicate chip.now.wires []) chip.now.groups },
     ghost are_owners: { AreOwners chip.now.groups owners },
+    ghost are_foreign: { AreForeign chip.now.functions foreign.items },
 }
 
 impl<'a> Index<'a> {
@@ -36,7 +42,13 @@ impl<'a> Index<'a> {
         let groups = chip.groups();
         let into = groups_by_wire(alloc, groups, wires)?;
         let owners = owners_of(alloc, groups)?;
-        Ok(Index { chip, into, owners })
+        let foreign = foreign_bits(alloc, chip.functions())?;
+        Ok(Index {
+            chip,
+            into,
+            owners,
+            foreign,
+        })
     }
 
     // The list of the groups into a wire. The wire is one of the chip.
@@ -58,10 +70,17 @@ impl<'a> Index<'a> {
         self.list_of(wire)
     }
 
-    /// Whether a group of the tile into another wire has the bit.
-    pub fn is_of_other(&self, tile: TileAt, wire: WireNo, bit: BitAt) -> bool
-        ensures { result ≡ is_of_other self.now.chip.now.groups tile wire.0 bit }
+    /// What is held of the bits of a tile: the wires into which its groups with each bit lead.
+    pub fn block_of(&self, tile: TileAt) -> &[Option<Owner>]
+        ensures { IsBlockOf self.now.chip.now.groups tile result.now }
     {
-        is_other(self.owners.get(&(tile, bit)), wire)
+        block_of(&self.owners, tile)
+    }
+
+    /// Whether a foreign function of IO tiles has the bit.
+    pub fn is_foreign(&self, bit: BitAt) -> bool
+        ensures { result ≡ is_of_function self.now.chip.now.functions (Some Io) bit }
+    {
+        has_bit(&self.foreign, bit)
     }
 }

@@ -5,6 +5,7 @@
 mod alone;
 mod bundle;
 mod first;
+mod foreign;
 mod index;
 mod lists;
 mod names;

@@ -22,7 +22,8 @@ fn empty_lists<'a>(alloc: Global, wires: u32) -> Result<Vec<Vec<&'a Group>>, NoM
 // Puts a group at the end of the list of its wire.
 fn list_group<'a>(lists: &mut [Vec<&'a Group>], group: &'a Group) -> Result<(), NoMemory>
     requires { group.now.wire.0 < length lists.old }
-    ensures { OnOk result (lists_of lists.new ≡ with_listed (lists_of lists.old) (group_view group.now)) }
+    ensures { OnOk result
+        (lists_of lists.new ≡ with_listed (lists_of lists.old) (group_view group.now)) }
 {
     let list = &mut lists[group.wire.0 as usize];
     list.push(group)?;
@@ -37,7 +38,8 @@ pub fn groups_by_wire<'a>(
     wires: u32,
 ) -> Result<Vec<Vec<&'a Group>>, NoMemory>
     requires { All (HasWiresBelow wires) (map group_view groups.now) }
-    ensures { IfOk result (λ lists. lists_of lists.items ≡ listed (replicate wires []) (map group_view groups.now)) }
+    ensures { IfOk result (λ lists.
+        lists_of lists.items ≡ listed (replicate wires []) (map group_view groups.now)) }
 {
     let mut lists = empty_lists(alloc, wires)?;
     for group in groups {

@@ -41,8 +41,8 @@ fn sets(group: &Group, row: &Row, tile: TileAt, bit: BitAt) -> bool
 
 // Whether the values of a row set a bit of another group.
 fn sets_some(group: &Group, row: &Row, other: &Group) -> bool
-    ensures { result
-        ≡ list_any (λ v. v) (values_of (sets (group_view group.now) (row_view row.now)) (group_view other.now)) }
+    ensures { result ≡ list_any (λ v. v)
+        (values_of (sets (group_view group.now) (row_view row.now)) (group_view other.now)) }
 {
     for bit in other.bits.as_slice() {
         if sets(group, row, other.tile, *bit) {
@@ -55,8 +55,8 @@ fn sets_some(group: &Group, row: &Row, other: &Group) -> bool
 // Whether the bits of another group have these values under those of a row.
 #[tactic(auto, using(crate::proofs::Values::alike_next, crate::proofs::Values::alike_end, crate::proofs::Values::unlike_long))]
 fn are_values(group: &Group, row: &Row, other: &Group, values: &[bool]) -> bool
-    ensures { result
-        ≡ pointwise beq values.now (values_of (sets (group_view group.now) (row_view row.now)) (group_view other.now)) }
+    ensures { result ≡ pointwise beq values.now
+        (values_of (sets (group_view group.now) (row_view row.now)) (group_view other.now)) }
 {
     if values.len() != other.bits.len() {
         return false;
@@ -71,8 +71,9 @@ fn are_values(group: &Group, row: &Row, other: &Group, values: &[bool]) -> bool
 
 // The number of the first row of another group that has the values of its bits under those of a row.
 fn number_with(group: &Group, row: &Row, other: &Group) -> Option<usize>
-    ensures { result
-        ≡ number_with (values_of (sets (group_view group.now) (row_view row.now)) (group_view other.now)) (group_view other.now).first (group_view other.now).rows }
+    ensures { result ≡ number_with
+        (values_of (sets (group_view group.now) (row_view row.now)) (group_view other.now))
+        (group_view other.now).first (group_view other.now).rows }
 {
     for k in 0..other.rows.len() {
         if are_values(group, row, other, &other.rows[k].values) {
@@ -82,10 +83,13 @@ fn number_with(group: &Group, row: &Row, other: &Group) -> Option<usize>
     None
 }
 
+// The numbers of the places of bits are below this one: a row and a column are below 256.
+const PLACES: u32 = 65_536;
+
 // The place of a bit as one number.
 fn place_code(bit: BitAt) -> u32
     ensures code { result ≡ place_code bit }
-    ensures below { result < 65536 }
+    ensures below { result < PLACES }
 {
     u32::from(bit.row) * 256 + u32::from(bit.col)
 }
@@ -121,9 +125,9 @@ fn are_same(bits: &[BitAt], others: &[BitAt]) -> bool
     true
 }
 
-// Whether the lists of values are the same. Most differ in the first values.
+/// Whether the lists of values are the same. Most differ in the first values.
 #[tactic(auto, using(crate::proofs::Alike::next, crate::proofs::Alike::end, crate::proofs::Alike::unlike))]
-fn are_alike(values: &[bool], others: &[bool]) -> bool
+pub fn are_alike(values: &[bool], others: &[bool]) -> bool
     ensures { result ≡ pointwise beq values.now others.now }
 {
     if values.len() != others.len() {
@@ -140,7 +144,8 @@ fn are_alike(values: &[bool], others: &[bool]) -> bool
 // Whether another group plainly has the values of the row itself: it has the bits of the row's group, in the order of
 // their places, and the row one value for each.
 fn has_own_values(group: &Group, row: &Row, other: &Group) -> bool
-    ensures { result ≡ true → values_of (sets (group_view group.now) (row_view row.now)) (group_view other.now)
+    ensures { result ≡ true
+        → values_of (sets (group_view group.now) (row_view row.now)) (group_view other.now)
         ≡ row.now.values.items }
 {
     if group.tile != other.tile || row.values.len() != group.bits.len() {
@@ -166,7 +171,8 @@ pub fn has_one(values: &[bool]) -> bool
 
 // The number of the first row of a group that has the values.
 fn number_of(values: &[bool], other: &Group) -> Option<usize>
-    ensures { result ≡ number_with values.now (group_view other.now).first (group_view other.now).rows }
+    ensures { result
+        ≡ number_with values.now (group_view other.now).first (group_view other.now).rows }
 {
     for k in 0..other.rows.len() {
         if are_alike(&other.rows[k].values, values) {
@@ -178,8 +184,9 @@ fn number_of(values: &[bool], other: &Group) -> Option<usize>
 
 // The number of the row of a group that is on where the group's bits have these values.
 fn row_with(values: &[bool], other: &Group) -> Option<usize>
-    ensures { result
-        ≡ (if list_any (λ v. v) values.now then number_with values.now (group_view other.now).first (group_view other.now).rows else None) }
+    ensures { result ≡ (if list_any (λ v. v) values.now
+        then number_with values.now (group_view other.now).first (group_view other.now).rows
+        else None) }
 {
     if !has_one(values) {
         return None;
@@ -189,7 +196,8 @@ fn row_with(values: &[bool], other: &Group) -> Option<usize>
 
 // The number of the row of a group that is on under the values of a row, where one is, as for any group.
 fn any_row_on(group: &Group, row: &Row, other: &Group) -> Option<usize>
-    ensures { result ≡ row_on (sets (group_view group.now) (row_view row.now)) (group_view other.now) }
+    ensures { result
+        ≡ row_on (sets (group_view group.now) (row_view row.now)) (group_view other.now) }
 {
     if !sets_some(group, row, other) {
         return None;
@@ -199,7 +207,8 @@ fn any_row_on(group: &Group, row: &Row, other: &Group) -> Option<usize>
 
 /// The number of the row of a group that is on under the values of a row, where one is.
 pub fn row_on(group: &Group, row: &Row, other: &Group) -> Option<usize>
-    ensures { result ≡ row_on (sets (group_view group.now) (row_view row.now)) (group_view other.now) }
+    ensures { result
+        ≡ row_on (sets (group_view group.now) (row_view row.now)) (group_view other.now) }
 {
     if has_own_values(group, row, other) {
         return row_with(&row.values, other);

@@ -15,7 +15,8 @@ use ice_chip::{Group, Row};
 
 // Whether the row of a number is the one row of its bundle that is on under its values.
 fn is_alone(index: &Index, group: &Group, number: u32, row: &Row) -> bool
-    ensures { result ≡ is_alone index.now.chip.now.groups (group_view group.now) number (row_view row.now) }
+    ensures { result
+        ≡ is_alone index.now.chip.now.groups (group_view group.now) number (row_view row.now) }
 {
     let groups = index.groups_into(group.wire);
     alone::is_alone(groups, group, number as usize, row)
@@ -23,8 +24,11 @@ fn is_alone(index: &Index, group: &Group, number: u32, row: &Row) -> bool
 
 // Whether the row of a number is the one row of its bundle that is on under its values. Where its group is plain it is.
 fn is_alone_in(index: &Index, group: &Group, plain: bool, number: u32, row: &Row) -> bool
-    requires plain { plain ≡ true → is_alone index.now.chip.now.groups (group_view group.now) number (row_view row.now) ≡ true }
-    ensures { result ≡ is_alone index.now.chip.now.groups (group_view group.now) number (row_view row.now) }
+    requires plain { plain ≡ true
+        → is_alone index.now.chip.now.groups (group_view group.now) number (row_view row.now)
+        ≡ true }
+    ensures { result
+        ≡ is_alone index.now.chip.now.groups (group_view group.now) number (row_view row.now) }
 {
     plain || is_alone(index, group, number, row)
 }
@@ -34,7 +38,8 @@ fn is_alone_in(index: &Index, group: &Group, plain: bool, number: u32, row: &Row
 pub fn is_sound(index: &Index, group: &Group, number: u32, row: &Row) -> bool
     requires wire { group.now.wire.0 < index.now.chip.now.wires }
     requires source { row.now.source.0 < index.now.chip.now.wires }
-    ensures { result ≡ is_sound index.now.chip.now (group_view group.now) number (row_view row.now) }
+    ensures { result
+        ≡ is_sound index.now.chip.now (group_view group.now) number (row_view row.now) }
 {
     is_private(index, group.tile, group.wire)
         && !has_memory_name(index.chip, row.source)
@@ -65,8 +70,11 @@ pub fn is_taken(
 ) -> bool
     requires uses { AreUses index.now.chip.now uses.now }
     requires source { row.now.source.0 < index.now.chip.now.wires }
-    requires plain { plain ≡ true → is_alone index.now.chip.now.groups (group_view group.now) number (row_view row.now) ≡ true }
-    ensures { result ≡ is_taken index.now.chip.now (group_view group.now) number (row_view row.now) }
+    requires plain { plain ≡ true
+        → is_alone index.now.chip.now.groups (group_view group.now) number (row_view row.now)
+        ≡ true }
+    ensures { result
+        ≡ is_taken index.now.chip.now (group_view group.now) number (row_view row.now) }
 {
     is_source(index.chip, uses, row.source) && is_alone_in(index, group, plain, number, row)
 }
@@ -76,7 +84,8 @@ pub fn is_taken(
 pub fn is_usable(index: &Index, group: &Group, number: u32, row: &Row) -> bool
     requires wire { group.now.wire.0 < index.now.chip.now.wires }
     requires source { row.now.source.0 < index.now.chip.now.wires }
-    ensures { result ≡ is_usable index.now.chip.now (group_view group.now) number (row_view row.now) }
+    ensures { result
+        ≡ is_usable index.now.chip.now (group_view group.now) number (row_view row.now) }
 {
     is_sound(index, group, number, row)
         && may_leave(index.chip, row.source)

@@ -8,10 +8,11 @@ use Rattle.ice_net.specs.NetlistData.{NetlistData}
 use Rattle.ice_net.proofs.NetlistLaws.{names_grow}
 use Rattle.ice_blif.specs.declared.fault.BlifFault.{BlifFault}
 use Rattle.ice_blif.specs.declared.fault.BlifFault.TheVariants.{TooMany}
-use Rattle.ice_blif.specs.Cells.{◌>>=◌, own_cell, with_cell}
+use Rattle.ice_blif.specs.Cells.{◌>>=◌}
 use Rattle.ice_blif.specs.FirstFault.{IsOneTooMany}
-use Rattle.ice_blif.specs.Registers.{hidden_name, input_pad, input_register, output_pad, output_register, buffer_of, with_input, with_output, with_pad, with_cells_of, with_buffer, with_apart, all_apart, few_signals, apart_says}
-use Rattle.ice_blif.specs.State.{named, signal_of}
+use Rattle.ice_blif.specs.Registers.{hidden_name, input_pad, input_register, output_pad, output_register, buffer_of, with_input, with_output, with_pad, with_cells_of, with_buffer, with_apart, all_apart}
+use Rattle.ice_blif.specs.FewSignals.{few_signals, apart_says}
+use Rattle.ice_blif.specs.State.{named, signal_of, own_cell, with_cell}
 use Rattle.ice_blif.proofs.Kept.{bound}
 
 -- ---- names

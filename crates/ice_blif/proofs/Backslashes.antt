@@ -4,7 +4,7 @@ use Rattle.std.specs.List.{list_all}
 use Rattle.std.proofs.lemmas.Bool.{and_parts}
 use Rattle.ice_base.proofs.Booleans.{and_false}
 use Rattle.ice_base.specs.Text.{is_blank}
-use Rattle.ice_blif.specs.JoinedLines.{before_backslash, in_front_of}
+use Rattle.ice_blif.specs.Continued.{before_backslash, in_front_of}
 
 -- a line of blanks
 all_blank : (line : List ℕ) → list_all is_blank line ≡ true → before_backslash line ≡ None

@@ -6,10 +6,12 @@ use Rattle.ice_net.specs.NetlistData.{NetlistData}
 use Rattle.ice_blif.specs.declared.fault.BlifFault.{BlifFault}
 use Rattle.ice_blif.specs.declared.fault.BlifFault.TheVariants.{NoModel, SecondModel, NoEnd}
 use Rattle.ice_blif.specs.JoinedLines.{FilledLine, joined, filled, last_number}
-use Rattle.ice_blif.specs.State.{NetReading}
-use Rattle.ice_blif.specs.Cells.{◌>>=◌, finished}
+use Rattle.ice_blif.specs.State.{finished}
+use Rattle.ice_blif.specs.Reading.{NetReading}
+use Rattle.ice_blif.specs.Cells.{◌>>=◌}
 use Rattle.ice_blif.specs.Grammar.{within_limits, line_says, after_end, ended, model_says, empty_reader, lines_say, text_says, netlist_of, HasNetlist, IsWithinLimits}
-use Rattle.ice_blif.specs.Registers.{taken_apart_says, without_cells}
+use Rattle.ice_blif.specs.Registers.{without_cells}
+use Rattle.ice_blif.specs.FewSignals.{taken_apart_says}
 use Rattle.ice_blif.specs.FirstFault.{is_model, is_end, LeadsTo, IsSecondModel, IsModelFault, in_line, no_end, behind_end, IsFirstFault, no_line, no_model, in_model, HasFirstFault, in_lines, hidden}
 use Rattle.ice_blif.proofs.Apart.{apart_told, apart_faulty}
 use Rattle.ice_blif.proofs.Growing.{text_small}

@@ -6,13 +6,15 @@ use Rattle.ice_base.specs.declared.number.SignalNo.{SignalNo}
 use Rattle.ice_net.specs.declared.port.Way.{Way}
 use Rattle.ice_net.specs.declared.port.Way.TheVariants.{Input, Output}
 use Rattle.ice_net.specs.Kinds.{ins_count}
-use Rattle.ice_net.specs.NetlistData.{NetlistData, way_of}
+use Rattle.ice_net.specs.NetlistData.{NetlistData}
+use Rattle.ice_net.specs.Ways.{way_of}
 use Rattle.ice_net.proofs.NetlistLaws.{names_grow}
 use Rattle.ice_blif.specs.declared.fault.BlifFault.{BlifFault}
 use Rattle.ice_blif.specs.declared.fault.BlifFault.TheVariants.{NoModel, SecondModel, UnknownDirective, PortTwice, TooWide, TooMany}
 use Rattle.ice_blif.specs.JoinedLines.{FilledLine, joined, filled, last_number}
-use Rattle.ice_blif.specs.State.{LastCell, NetReading, Connections, Nothing, Gate, Rows, named, signal_of}
-use Rattle.ice_blif.specs.Cells.{◌>>=◌, cover_row_says, kind_says, with_kind, param_says, finished, count_of, IsWithin, IsRawWithin}
+use Rattle.ice_blif.specs.State.{LastCell, Nothing, Gate, Rows, named, signal_of, with_kind, finished}
+use Rattle.ice_blif.specs.Reading.{NetReading, Connections}
+use Rattle.ice_blif.specs.Cells.{◌>>=◌, cover_row_says, kind_says, param_says, count_of, IsWithin, IsRawWithin}
 use Rattle.ice_blif.specs.Grammar.{was_named, with_named_port, port_says, ports_say, no_wiring, is_missing, after_actual, connect_at, connect_by, equals_at, connection_says, connections_say, cell_of, with_last, without_rows, gate_of_kind, gate_says, cover_signals, new_cover, cover_of, names_say, row_line, row_or_fault, port_directive_says, param_directive_says, directive_says, within_limits, no_limits, line_says, after_end, ended, model_says, empty_reader, lines_say, text_says}
 use Rattle.ice_blif.specs.declared.kind.GateKind.{GateKind}
 use Rattle.ice_blif.specs.Gates.{gate_kind_of, gate_place}

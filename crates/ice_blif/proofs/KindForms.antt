@@ -6,8 +6,9 @@ use Rattle.ice_net.specs.declared.cell.Cell.{Cell}
 use Rattle.ice_net.specs.declared.kind.CellKind.{CellKind}
 use Rattle.ice_net.specs.Formed.{IsBelow, IsFormedKind}
 use Rattle.ice_net.specs.Kinds.{outs_count}
-use Rattle.ice_blif.specs.Cells.{with_kind, IsReadCell}
-use Rattle.ice_blif.specs.Gates.{KeepsForm}
+use Rattle.ice_blif.specs.Cells.{IsReadCell}
+use Rattle.ice_blif.specs.State.{with_kind}
+use Rattle.ice_blif.specs.Parameters.{KeepsForm}
 
 -- a cell with another parameter is as well formed
 pub with_kind_formed : (cell : Cell) (kind : CellKind) → KeepsForm cell.kind kind → (signals : ℕ) → IsReadCell signals cell → IsReadCell signals (with_kind cell kind)

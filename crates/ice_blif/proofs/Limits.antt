@@ -3,7 +3,7 @@ use Rattle.std.proofs.Common.{◌≡◌, ℕ, ◌+◌, Bool, true, false, List, 
 use Rattle.ice_net.specs.NetlistData.{NetlistData}
 use Rattle.ice_blif.specs.declared.fault.BlifFault.{BlifFault}
 use Rattle.ice_blif.specs.declared.fault.BlifFault.TheVariants.{TooMany, NoModel}
-use Rattle.ice_blif.specs.State.{NetReading}
+use Rattle.ice_blif.specs.Reading.{NetReading}
 use Rattle.ice_base.specs.Text.{lines, numbered}
 use Rattle.ice_blif.specs.JoinedLines.{FilledLine, joined, filled, last_number}
 use Rattle.ice_blif.specs.Cells.{◌>>=◌, count_of}

@@ -6,10 +6,11 @@ use Rattle.std.proofs.Math.Nat.{mod-lt}
 use Rattle.std.proofs.lemmas.List.Elements.{All-weaker}
 use Rattle.ice_base.specs.declared.number.SignalNo.{SignalNo}
 use Rattle.ice_net.specs.Formed.{IsBelow, IsPresent, IsFormedCell}
-use Rattle.ice_blif.specs.State.{OpenCover, LastCell, NetReading, Nothing, Gate, Rows}
+use Rattle.ice_blif.specs.State.{OpenCover, LastCell, Nothing, Gate, Rows, cover_cell, finished}
+use Rattle.ice_blif.specs.Reading.{NetReading}
 use Rattle.ice_blif.specs.Covers.{table_of}
 use Rattle.ice_net.specs.NetlistData.{NetlistData}
-use Rattle.ice_blif.specs.Cells.{cover_cell, finished, IsOpenCover, IsReadCell, IsFormedLast, IsReady, IsWithin, IsRawWithin, count_of}
+use Rattle.ice_blif.specs.Cells.{IsOpenCover, IsReadCell, IsFormedLast, IsReady, IsWithin, IsRawWithin, count_of}
 use Rattle.ice_blif.specs.Grammar.{with_last}
 
 some_tables : (width : ℕ) → 0 < 2 ^ (2 ^ width)

@@ -4,7 +4,8 @@ use Rattle.std.proofs.lemmas.List.Elements.{All-nil, All-push, All-weaker}
 use Rattle.ice_net.specs.declared.cell.Cell.{Cell}
 use Rattle.ice_net.specs.NetlistData.{NetlistData, empty_netlist}
 use Rattle.ice_net.proofs.NetlistLaws.{formed_more}
-use Rattle.ice_blif.specs.Cells.{own_cell, IsReadCell, IsRaw}
+use Rattle.ice_blif.specs.Cells.{IsReadCell, IsRaw}
+use Rattle.ice_blif.specs.State.{own_cell}
 use Rattle.ice_blif.proofs.Wirings.{all_below_more}
 
 pub read_more : (m n : ℕ) → m ≤ n → (cell : Cell) → IsReadCell m cell → IsReadCell n cell

@@ -10,7 +10,8 @@ use Rattle.ice_net.specs.declared.kind.CellKind.TheVariants.{PadCell}
 use Rattle.ice_net.specs.Formed.{IsBelow, IsFormedCell}
 use Rattle.ice_net.specs.Kinds.{ins_count, outs_count}
 use Rattle.ice_net.proofs.NetlistLaws.{below_more}
-use Rattle.ice_blif.specs.Cells.{own_cell, IsReadCell, IsPad}
+use Rattle.ice_blif.specs.Cells.{IsReadCell, IsPad}
+use Rattle.ice_blif.specs.State.{own_cell}
 use Rattle.ice_blif.specs.Registers.{register, input_pad, input_register, output_pad, output_register, buffer, buffer_of}
 use Rattle.ice_blif.proofs.Wirings.{all_below_more, wired_below}
 

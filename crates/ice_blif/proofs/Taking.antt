@@ -6,7 +6,8 @@ use Rattle.ice_net.specs.declared.cell.Cell.{Cell}
 use Rattle.ice_net.specs.NetlistData.{NetlistData}
 use Rattle.ice_blif.specs.declared.fault.BlifFault.{BlifFault}
 use Rattle.ice_blif.specs.Cells.{◌>>=◌, IsReadCell}
-use Rattle.ice_blif.specs.Registers.{with_apart, few_signals, apart_says}
+use Rattle.ice_blif.specs.Registers.{with_apart}
+use Rattle.ice_blif.specs.FewSignals.{few_signals, apart_says}
 use Rattle.ice_blif.proofs.Apart.{apart_few, apart_grows}
 use Rattle.ice_blif.proofs.RawCells.{all_read_more}
 

@@ -5,7 +5,8 @@ use Rattle.ice_blif.specs.declared.fault.BlifFault.{BlifFault}
 use Rattle.ice_blif.specs.Answers.{Gives}
 use Rattle.ice_blif.specs.Cells.{◌>>=◌, IsRawWithin}
 use Rattle.ice_blif.specs.Grammar.{within_limits, text_says, netlist_of, HasNetlist, lines_made, IsWithinLimits}
-use Rattle.ice_blif.specs.Registers.{all_apart, taken_apart_says, without_cells}
+use Rattle.ice_blif.specs.Registers.{all_apart, without_cells}
+use Rattle.ice_blif.specs.FewSignals.{taken_apart_says}
 use Rattle.ice_blif.proofs.Apart.{all_grow, all_few, said_apart, apart_within}
 use Rattle.ice_blif.proofs.Growing.{text_within, text_small}
 use Rattle.ice_blif.proofs.Kept.{bound}

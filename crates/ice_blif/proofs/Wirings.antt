@@ -6,14 +6,15 @@ use Rattle.ice_net.specs.declared.kind.Reset.{Reset}
 use Rattle.ice_net.specs.declared.kind.Reset.TheVariants.{Nothing, SyncReset, AsyncReset, SyncSet, AsyncSet}
 use Rattle.ice_net.specs.declared.kind.CellKind.{CellKind}
 use Rattle.ice_net.specs.declared.kind.CellKind.TheVariants.{Lut, Cover, Carry, Flop, PadCell, Global}
-use Rattle.ice_net.specs.Kinds.{enable_names, reset_names, ins_count, outs_count, IsGateKind}
-use Rattle.ice_net.specs.Formed.{IsBelow, IsPresent, IsFormedKind}
+use Rattle.ice_net.specs.Kinds.{enable_names, reset_names, ins_count, outs_count}
+use Rattle.ice_net.specs.Formed.{IsBelow, IsPresent, IsFormedKind, IsGateKind}
 use Rattle.ice_net.proofs.NetlistLaws.{below_more, present_more, formed_more}
-use Rattle.ice_blif.specs.State.{LastCell, Connections, Nothing as nothing_last, Gate, Rows}
+use Rattle.ice_blif.specs.State.{LastCell, Nothing as nothing_last, Gate, Rows, own_cell}
+use Rattle.ice_blif.specs.Reading.{Connections}
 use Rattle.ice_blif.specs.declared.kind.GateKind.{GateKind}
 use Rattle.ice_blif.specs.Gates.{gate_outs}
 use Rattle.ice_blif.specs.Grammar.{cell_of}
-use Rattle.ice_blif.specs.Cells.{own_cell, IsReadCell, IsFormedLast}
+use Rattle.ice_blif.specs.Cells.{IsReadCell, IsFormedLast}
 
 pub all_below_more : (m n : ℕ) (signals : List (Option SignalNo)) → m ≤ n → All (IsBelow m) signals → All (IsBelow n) signals
 all_below_more m n signals le h = All-weaker (IsBelow m) (IsBelow n) (below_more m n le) signals h

@@ -1,17 +1,17 @@
--- The cell that was made last, and what rows and parameters add to it.
-use Rattle.std.specs.Prelude.{◌≡◌, ℕ, ◌+◌, ◌^◌, ◌≤◌, Bool, ◌==◌, List, [], ◌∷◌, ◌++◌, length, take, Option, Some, None, Result, Ok, Err, if◌then◌else◌, bit_or, codes, bytes_eq, All}
+-- What rows and parameters add to the cell that was made last, or their fault; what a reader of cells keeps.
+use Rattle.std.specs.Prelude.{◌≡◌, ℕ, ◌+◌, ◌^◌, ◌≤◌, Bool, ◌==◌, List, [], ◌∷◌, length, Option, Some, None, Result, Ok, Err, if◌then◌else◌, codes, bytes_eq, All, true, false, ◌&&◌, ◌||◌, not}
 use Rattle.ice_net.specs.declared.cell.Cell.{Cell}
-use Rattle.ice_net.specs.declared.kind.CellKind as kinds
 use Rattle.ice_net.specs.declared.kind.CellKind.{CellKind}
 use Rattle.ice_net.specs.declared.kind.CellKind.TheVariants.{Lut, PadCell}
 use Rattle.ice_net.specs.NetlistData.{NetlistData}
 use Rattle.ice_net.specs.Formed.{IsBelow, IsFormedCell, IsPresent}
-use Rattle.ice_net.specs.Kinds.{outs_count}
 use Rattle.ice_blif.specs.declared.fault.BlifFault.{BlifFault}
 use Rattle.ice_blif.specs.declared.fault.BlifFault.TheVariants.{BadCover}
-use Rattle.ice_blif.specs.State.{OpenCover, LastCell, NetReading, Nothing, Gate, Rows}
-use Rattle.ice_blif.specs.Covers.{row_table, is_row, level_of_word, agrees, table_of}
-use Rattle.ice_blif.specs.Gates.{bits_say, standard_says}
+use Rattle.ice_blif.specs.State.{OpenCover, LastCell, Nothing, Gate, Rows, own_cell, with_cover_row, with_kind}
+use Rattle.ice_blif.specs.Reading.{NetReading}
+use Rattle.ice_blif.specs.Covers.{level_of_word}
+use Rattle.ice_blif.specs.Parameters.{bits_say, standard_says}
+use Rattle.std.specs.List.{list_all}
 
 infixl 10 ◌>>=◌
 -- a value goes on, and the first fault stays
@@ -32,9 +32,19 @@ row_and_level row ws = None
 abbrev pub row_parts : ℕ → List ℕ → List (List ℕ) → Option (List ℕ × List ℕ)
 row_parts width first others = if width == 0 then level_alone first others else row_and_level first others
 
--- a cover with one row more
-abbrev pub with_cover_row : OpenCover → List ℕ → Bool → OpenCover
-with_cover_row c row level = record { line = c.line; ins = c.ins; outs = c.outs; covered = bit_or c.covered (row_table row); level = Some level }
+-- a digit of a row
+abbrev pub is_row_digit : ℕ → Bool
+is_row_digit b = b == 48 || b == 49 || b == 45
+
+-- a row for so many inputs
+abbrev pub is_row : ℕ → List ℕ → Bool
+is_row width row = length row == width && list_all is_row_digit row
+
+-- rows of a cover give one level
+abbrev pub agrees : Option Bool → Bool → Bool
+agrees None level = true
+agrees (Some true) level = level
+agrees (Some false) level = not level
 
 abbrev pub row_of_level : ℕ → OpenCover → List ℕ → Option Bool → Result OpenCover BlifFault
 row_of_level line c row None = Err (BadCover line)
@@ -47,10 +57,6 @@ cover_row_of line c (Some parts) = if is_row (length c.ins) parts.0 then row_of_
 -- the cover with the row of a line's words
 abbrev pub cover_row_says : ℕ → OpenCover → List ℕ → List (List ℕ) → Result OpenCover BlifFault
 cover_row_says line c first others = cover_row_of line c (row_parts (length c.ins) first others)
-
--- the cell of a cover with all its rows
-abbrev pub cover_cell : OpenCover → Cell
-cover_cell c = record { kind = kinds.TheVariants.Cover (table_of (length c.ins) c.level c.covered) (length c.ins); line = c.line; ins = c.ins; outs = c.outs }
 
 -- ---- parameters
 -- a kind with a parameter
@@ -70,23 +76,11 @@ kind_says line (Lut table) name values = lut_says line table name values
 kind_says line (PadCell pin_type pullup) name values = pad_says line pin_type pullup name values
 kind_says line kind name values = Ok kind
 
-abbrev pub with_kind : Cell → CellKind → Cell
-with_kind cell kind = record { kind = kind; line = cell.line; ins = cell.ins; outs = cell.outs }
-
 -- the cell made last with the parameter of a line; parameters of covers, and before any cell, are read over
 abbrev pub param_says : ℕ → LastCell → List (List ℕ) → Result LastCell BlifFault
 param_says line last [] = Ok last
 param_says line (Gate cell) (name ∷ values) = kind_says line cell.kind name values >>= (λ kind. Ok (Gate (with_kind cell kind)))
 param_says line last (name ∷ values) = Ok last
-
--- ---- the cell made last joins the others
-abbrev pub with_cell : NetlistData → Cell → NetlistData
-with_cell n cell = record { names = n.names; ports = n.ports; cells = n.cells ++ cell ∷ [] }
-
-abbrev pub finished : NetlistData → LastCell → NetlistData
-finished n Nothing = n
-finished n (Gate cell) = with_cell n cell
-finished n (Rows cover) = with_cell n (cover_cell cover)
 
 -- how many cells the last is
 abbrev pub count_of : LastCell → ℕ
@@ -99,10 +93,6 @@ pub record IsOpenCover (signals : ℕ) (c : OpenCover) : Type 0 where
   pub single : length c.outs ≡ 1
   pub ins_present : All (IsPresent signals) c.ins
   pub outs_present : All (IsPresent signals) c.outs
-
--- a cell without outputs behind those of its kind
-abbrev pub own_cell : Cell → Cell
-own_cell cell = record { kind = cell.kind; line = cell.line; ins = cell.ins; outs = take (outs_count cell.kind) cell.outs }
 
 -- a cell as its line says it, over so many signals: well formed, but for outputs behind those of its kind
 pub record IsReadCell (signals : ℕ) (cell : Cell) : Type 0 where

@@ -1,6 +1,5 @@
 -- Covers: rows of a truth table.
-use Rattle.std.specs.Prelude.{ℕ, ◌+◌, ◌-◌, ◌*◌, ◌/◌, ◌%◌, ◌^◌, Bool, true, false, ◌&&◌, ◌||◌, not, ◌==◌, List, [], ◌∷◌, length, Option, Some, None, if◌then◌else◌, codes, bytes_eq}
-use Rattle.std.specs.List.{list_all}
+use Rattle.std.specs.Prelude.{ℕ, ◌+◌, ◌-◌, ◌*◌, ◌/◌, ◌%◌, ◌^◌, Bool, true, false, ◌&&◌, ◌||◌, ◌==◌, List, [], ◌∷◌, Option, Some, None, if◌then◌else◌, codes, bytes_eq}
 
 -- the row has the levels of that number, the first input the lowest digit: each input's digit is its level or `-` (48 is `0`, 45 is `-`)
 abbrev pub covers : List ℕ → ℕ → Bool
@@ -20,23 +19,9 @@ four_bits row j = bit (covers row (j + 3)) * 8 + bit (covers row (j + 2)) * 4 + 
 abbrev pub row_table : List ℕ → ℕ
 row_table row = four_bits row 12 * 4096 + four_bits row 8 * 256 + four_bits row 4 * 16 + four_bits row 0
 
--- a digit of a row
-abbrev pub is_row_digit : ℕ → Bool
-is_row_digit b = b == 48 || b == 49 || b == 45
-
--- a row for so many inputs
-abbrev pub is_row : ℕ → List ℕ → Bool
-is_row width row = length row == width && list_all is_row_digit row
-
 -- the level that a row gives
 abbrev pub level_of_word : List ℕ → Option Bool
 level_of_word word = if bytes_eq word (codes "0") then Some false else (if bytes_eq word (codes "1") then Some true else None)
-
--- rows of a cover give one level
-abbrev pub agrees : Option Bool → Bool → Bool
-agrees None level = true
-agrees (Some true) level = level
-agrees (Some false) level = not level
 
 -- the table of a cover of so many inputs by the level that its rows give: the rows are the on-set or the off-set, and without rows all is 0
 abbrev pub table_of : ℕ → Option Bool → ℕ → ℕ

@@ -7,7 +7,7 @@ use Rattle.ice_net.specs.NetlistData.{NetlistData}
 use Rattle.ice_blif.specs.declared.fault.BlifFault.{BlifFault}
 use Rattle.ice_blif.specs.declared.fault.BlifFault.TheVariants.{NoModel, SecondModel, NoEnd, TooMany}
 use Rattle.ice_blif.specs.JoinedLines.{FilledLine, joined, filled, last_number}
-use Rattle.ice_blif.specs.State.{NetReading}
+use Rattle.ice_blif.specs.Reading.{NetReading}
 use Rattle.ice_blif.specs.Grammar.{within_limits, line_says, empty_reader, text_says}
 use Rattle.ice_blif.specs.Registers.{with_apart, all_apart, without_cells}
 

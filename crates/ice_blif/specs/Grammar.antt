@@ -7,15 +7,18 @@ use Rattle.ice_net.specs.declared.cell.Cell.{Cell}
 use Rattle.ice_net.specs.declared.port.Way.{Way}
 use Rattle.ice_net.specs.declared.port.Way.TheVariants.{Input, Output}
 use Rattle.ice_net.specs.Kinds.{ins_count}
-use Rattle.ice_net.specs.NetlistData.{NetlistData, empty_netlist, with_port, way_of}
+use Rattle.ice_net.specs.NetlistData.{NetlistData, empty_netlist, with_port}
+use Rattle.ice_net.specs.Ways.{way_of}
 use Rattle.ice_blif.specs.declared.fault.BlifFault.{BlifFault}
 use Rattle.ice_blif.specs.declared.fault.BlifFault.TheVariants.{NoModel, SecondModel, UnknownDirective, UnknownCell, UnknownPort, PortTwice, BadCover, TooWide, NoEnd, TooMany}
-use Rattle.ice_blif.specs.State.{OpenCover, LastCell, NetReading, Connections, Nothing, Gate, Rows, named, signal_of}
+use Rattle.ice_blif.specs.State.{OpenCover, LastCell, Nothing, Gate, Rows, named, signal_of, finished}
+use Rattle.ice_blif.specs.Reading.{NetReading, Connections}
 use Rattle.ice_blif.specs.JoinedLines.{FilledLine, joined, filled, last_number}
-use Rattle.ice_blif.specs.Cells.{◌>>=◌, cover_row_says, param_says, finished, count_of}
+use Rattle.ice_blif.specs.Cells.{◌>>=◌, cover_row_says, param_says, count_of}
 use Rattle.ice_blif.specs.declared.kind.GateKind.{GateKind}
 use Rattle.ice_blif.specs.Gates.{gate_kind_of, gate_place, gate_outs}
-use Rattle.ice_blif.specs.Registers.{taken_apart, taken_apart_says}
+use Rattle.ice_blif.specs.Registers.{taken_apart}
+use Rattle.ice_blif.specs.FewSignals.{taken_apart_says}
 
 -- ---- ports
 -- a signal was named as a port of this way

@@ -1,9 +1,13 @@
 pub mod JoinedLines
+pub mod Continued
 pub mod State
+pub mod Reading
 pub mod Covers
 pub mod Cells
 pub mod Registers
+pub mod FewSignals
 pub mod Gates
+pub mod Parameters
 pub mod Grammar
 pub mod FirstFault
 pub mod Views

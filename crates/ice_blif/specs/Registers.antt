@@ -1,5 +1,5 @@
 -- Pads with a register and pads that feed a global, taken apart into cells that a netlist has.
-use Rattle.std.specs.Prelude.{ℕ, ◌==◌, Bool, true, false, List, [], ◌∷◌, ◌++◌, length, decimal, nat_lt, slice_get, slice_index_or, slice_set, Option, Some, None, option_map, Result, Ok, Err, if◌then◌else◌, codes}
+use Rattle.std.specs.Prelude.{ℕ, ◌==◌, Bool, true, false, List, [], ◌∷◌, ◌++◌, decimal, slice_get, slice_index_or, slice_set, Option, Some, None, option_map, if◌then◌else◌, codes}
 use Rattle.ice_base.specs.declared.number.SignalNo.{SignalNo}
 use Rattle.ice_net.specs.declared.cell.Cell.{Cell}
 use Rattle.ice_net.specs.declared.kind.CellKind.{CellKind}
@@ -7,10 +7,7 @@ use Rattle.ice_net.specs.declared.kind.CellKind.TheVariants.{Flop, PadCell, Glob
 use Rattle.ice_net.specs.declared.kind.Reset.TheVariants.{Nothing}
 use Rattle.ice_net.specs.Kinds.{outs_count}
 use Rattle.ice_net.specs.NetlistData.{NetlistData}
-use Rattle.ice_blif.specs.declared.fault.BlifFault.{BlifFault}
-use Rattle.ice_blif.specs.declared.fault.BlifFault.TheVariants.{TooMany}
-use Rattle.ice_blif.specs.Cells.{◌>>=◌, own_cell, with_cell}
-use Rattle.ice_blif.specs.State.{named, signal_of}
+use Rattle.ice_blif.specs.State.{named, signal_of, own_cell, with_cell}
 
 -- ---- the cells of one
 -- the name of a hidden signal: the number of the cell's line, a blank (32) and a word. No word of a text has a blank
@@ -86,15 +83,3 @@ without_cells n = record { names = n.names; ports = n.ports; cells = [] }
 -- a netlist whose cells are as their lines say them, taken apart. Hidden signals come last, by the order of the cells
 abbrev pub taken_apart : NetlistData → NetlistData
 taken_apart raw = all_apart (without_cells raw) raw.cells
-
--- ---- with at most 65,534 signals
-abbrev pub few_signals : ℕ → NetlistData → Result NetlistData BlifFault
-few_signals line n = if nat_lt 65534 (length n.names) then Err (TooMany line 65534) else Ok n
-
--- a netlist with those of all these cells, or the line of the first whose hidden signal is one too many
-abbrev pub apart_says : NetlistData → List Cell → Result NetlistData BlifFault
-apart_says n [] = Ok n
-apart_says n (cell ∷ cells) = few_signals cell.line (with_apart n cell) >>= (λ m. apart_says m cells)
-
-abbrev pub taken_apart_says : NetlistData → Result NetlistData BlifFault
-taken_apart_says raw = apart_says (without_cells raw) raw.cells

@@ -8,7 +8,8 @@ use Rattle.ice_blif.specs.declared.reader.Last as lasts
 use Rattle.ice_blif.specs.declared.reader.Last.{Last}
 use Rattle.ice_blif.specs.declared.reader.Reader.{Reader}
 use Rattle.ice_blif.specs.declared.wiring.Wiring.{Wiring}
-use Rattle.ice_blif.specs.State.{OpenCover, LastCell, Nothing, Gate, Rows, NetReading, Connections}
+use Rattle.ice_blif.specs.State.{OpenCover, LastCell, Nothing, Gate, Rows}
+use Rattle.ice_blif.specs.Reading.{NetReading, Connections}
 use Rattle.ice_blif.specs.JoinedLines.{FilledLine, joined, with_next, later_joined}
 
 -- ---- what is read so far

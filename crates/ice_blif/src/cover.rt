@@ -1,18 +1,18 @@
 //! Covers: `.names` lines and their rows.
-ghost use Rattle.std.specs.Prelude.{◌≡◌, ◌≤◌, ◌<◌, ◌^◌, [], length, OnOk, IfOk, IfErr, All};
+ghost use Rattle.std.specs.Prelude.{◌≡◌, ◌+◌, ◌≤◌, ◌<◌, ◌^◌, [], length, OnOk, IfOk, IfErr, All};
 ghost use Rattle.ice_blif.specs.declared.fault.BlifFault.TheVariants.{NoMemory as out_of_memory};
 ghost use Rattle.std.specs.List.{list_all};
 ghost use Rattle.ice_blif.specs.Answers.{Gives, ArePartsOf};
-ghost use Rattle.ice_blif.specs.Covers.{covers, bit, four_bits, row_table, is_row_digit, is_row, level_of_word, agrees, table_of};
+ghost use Rattle.ice_blif.specs.Covers.{covers, bit, four_bits, row_table, level_of_word, table_of};
 ghost use Rattle.ice_net.specs.Formed.{IsPresent};
-ghost use Rattle.ice_blif.specs.Cells.{row_parts, row_of_level, cover_row_says, IsReady};
+ghost use Rattle.ice_blif.specs.Cells.{row_parts, row_of_level, cover_row_says, IsReady, is_row_digit, is_row, agrees};
 ghost use Rattle.ice_blif.specs.Grammar.{cover_signals, new_cover, names_say};
 ghost use Rattle.ice_blif.specs.Views.{cover_view, reader_view, words_left, lines_left};
 
 use crate::BlifFault;
 use crate::cursor::Cursor;
 use crate::raw::RawNetlist;
-use crate::reader::{Cover, Last, Reader, join};
+use crate::reader::{Cover, Last, MOST_CELL_LINES, Reader, join};
 use ice_base::SignalNo;
 use ice_net::Signals;
 use std::alloc::Global;
@@ -154,7 +154,8 @@ fn row_parts<'a>(
 
 // Adds a row that gives this level.
 fn add_row(cover: &mut Cover, line: u32, row: &[u8], level: Option<bool>) -> Result<(), BlifFault>
-    ensures cover { Gives (λ _. cover_view cover.new) result (row_of_level line (cover_view cover.old) row.now level) }
+    ensures cover { Gives (λ _. cover_view cover.new) result
+        (row_of_level line (cover_view cover.old) row.now level) }
     ensures shape { (cover.new.ins ≡ cover.old.ins) × (cover.new.outs ≡ cover.old.outs) }
 {
     let Some(level) = level else {
@@ -175,7 +176,8 @@ pub(crate) fn row<'a>(
     first: &'a [u8],
     words: &mut Cursor<'a>,
 ) -> Result<(), BlifFault>
-    ensures cover { Gives (λ _. cover_view cover.new) result (cover_row_says line (cover_view cover.old) first.now (words_left words.old)) }
+    ensures cover { Gives (λ _. cover_view cover.new) result
+        (cover_row_says line (cover_view cover.old) first.now (words_left words.old)) }
     ensures shape { (cover.new.ins ≡ cover.old.ins) × (cover.new.outs ≡ cover.old.outs) }
     ensures lines { lines_left words.new ≡ lines_left words.old }
 {
@@ -197,9 +199,11 @@ fn cover_signals(
     line: u32,
     words: &mut Cursor<'_>,
 ) -> Result<Vec<Option<SignalNo>>, BlifFault>
-    ensures signals { Gives (λ signals. (netlist.new, signals.items)) result (cover_signals line netlist.old [] (words_left words.old)) }
+    ensures signals { Gives (λ signals. (netlist.new, signals.items)) result
+        (cover_signals line netlist.old [] (words_left words.old)) }
     ensures short { IfOk result (λ signals. length signals.items ≤ 5) }
-    ensures present { IfOk result (λ signals. All (IsPresent (length netlist.new.names)) signals.items) }
+    ensures present { IfOk result (λ signals.
+        All (IsPresent (length netlist.new.names)) signals.items) }
     ensures kept { OnOk result (length netlist.old.names ≤ length netlist.new.names) }
     ensures cells { OnOk result (netlist.new.cells ≡ netlist.old.cells) }
     ensures lines { lines_left words.new ≡ lines_left words.old }
@@ -241,9 +245,10 @@ pub(crate) fn names(
     line: u32,
     words: &mut Cursor<'_>,
 ) -> Result<(), BlifFault>
-    requires { IsReady 1048576 (reader_view reader.old) }
-    ensures names { Gives (λ _. reader_view reader.new) result (names_say line (reader_view reader.old) (words_left words.old)) }
-    ensures ready { OnOk result (IsReady 1048577 (reader_view reader.new)) }
+    requires { IsReady MOST_CELL_LINES (reader_view reader.old) }
+    ensures names { Gives (λ _. reader_view reader.new) result
+        (names_say line (reader_view reader.old) (words_left words.old)) }
+    ensures ready { OnOk result (IsReady (MOST_CELL_LINES + 1) (reader_view reader.new)) }
     ensures lines { lines_left words.new ≡ lines_left words.old }
 {
     let signals = cover_signals(alloc, &mut reader.netlist, line, words)?;

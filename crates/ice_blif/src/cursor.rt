@@ -2,7 +2,8 @@
 ghost use Rattle.std.specs.Prelude.{◌≡◌, ◌<◌, [], ◌∷◌, length, drop, option_copied, IfSome, MatchOption, IsTrue, true, false};
 ghost use Rattle.std.specs.List.{list_any};
 ghost use Rattle.ice_base.specs.Text.{lines, numbered, words, is_blank, begins_with};
-ghost use Rattle.ice_blif.specs.JoinedLines.{before_backslash, continued, goes_on, plain, joined, filled, last_number};
+ghost use Rattle.ice_blif.specs.JoinedLines.{goes_on, plain, joined, filled, last_number};
+ghost use Rattle.ice_blif.specs.Continued.{before_backslash, continued};
 ghost use Rattle.ice_blif.specs.Views.{words_left, lines_left, IsContinued, IsFirstOf, IsNextWord, IsNextLine};
 
 use ice_base::{LineIter, PlainWords, begins_with, lines_of, plain_words_of, words_of};
@@ -151,7 +152,8 @@ impl<'a> Cursor<'a> {
 
     // Goes on to the next joined line, and gives its number; None at the end of the text.
     fn next_line(&mut self) -> Option<u32>
-        ensures { IsNextLine (lines_left self.old) result (words_left self.new) (lines_left self.new) }
+        ensures { IsNextLine (lines_left self.old) result
+            (words_left self.new) (lines_left self.new) }
     {
         self.skip();
         let line = self.lines.next()?;
@@ -162,7 +164,8 @@ impl<'a> Cursor<'a> {
     /// Goes on to the next joined line that has a word, and gives that word with the line's number; None at the end of
     /// the text.
     pub(crate) fn next_filled(&mut self) -> Option<FirstWord<'a>>
-        ensures { IsFirstOf (filled (lines_left self.old)) result (words_left self.new) (filled (lines_left self.new)) }
+        ensures { IsFirstOf (filled (lines_left self.old)) result (words_left self.new)
+            (filled (lines_left self.new)) }
     {
         while let Some(line) = self.next_line() {
             if let Some(word) = self.next_word() {

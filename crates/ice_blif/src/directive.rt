@@ -1,5 +1,5 @@
 //! Lines of a model.
-ghost use Rattle.std.specs.Prelude.{◌≡◌, ◌<◌, ◌≤◌, length, OnOk, IfOk};
+ghost use Rattle.std.specs.Prelude.{◌≡◌, ◌+◌, ◌<◌, ◌≤◌, length, OnOk, IfOk};
 ghost use Rattle.ice_blif.specs.Answers.{Gives};
 ghost use Rattle.ice_blif.specs.Cells.{IsReady, IsWithin};
 ghost use Rattle.ice_blif.specs.Grammar.{directive_says, row_or_fault, within_limits, line_says, port_directive_says, param_directive_says};
@@ -10,14 +10,11 @@ use crate::cover::{names, row};
 use crate::cursor::{Cursor, FirstWord};
 use crate::gate::gate;
 use crate::parameter::param;
-use crate::reader::{Last, Reader};
+use crate::reader::{Last, MOST_CELL_LINES, Reader};
 use crate::signal::ports;
 use ice_base::begins_with;
 use ice_net::{MOST_SIGNALS, Way};
 use std::alloc::Global;
-
-/// The lines that make a cell that a netlist may have.
-const MOST_CELL_LINES: u32 = 1_048_576;
 
 // Names the ports of a line.
 #[tactic(auto, using(crate::proofs::Wirings::last_formed_more))]
@@ -27,9 +24,10 @@ fn port_directive(
     way: Way,
     words: &mut Cursor<'_>,
 ) -> Result<(), BlifFault>
-    requires { IsReady 1048576 (reader_view reader.old) }
-    ensures reader { Gives (λ _. reader_view reader.new) result (port_directive_says line way (reader_view reader.old) (words_left words.old)) }
-    ensures ready { OnOk result (IsReady 1048577 (reader_view reader.new)) }
+    requires { IsReady MOST_CELL_LINES (reader_view reader.old) }
+    ensures reader { Gives (λ _. reader_view reader.new) result
+        (port_directive_says line way (reader_view reader.old) (words_left words.old)) }
+    ensures ready { OnOk result (IsReady (MOST_CELL_LINES + 1) (reader_view reader.new)) }
     ensures lines { lines_left words.new ≡ lines_left words.old }
 {
     ports(&mut reader.netlist, line, way, words)?;
@@ -39,9 +37,10 @@ fn port_directive(
 
 // Reads a parameter of the last cell.
 fn param_directive(reader: &mut Reader, line: u32, words: &mut Cursor<'_>) -> Result<(), BlifFault>
-    requires { IsReady 1048576 (reader_view reader.old) }
-    ensures reader { Gives (λ _. reader_view reader.new) result (param_directive_says line (reader_view reader.old) (words_left words.old)) }
-    ensures ready { OnOk result (IsReady 1048577 (reader_view reader.new)) }
+    requires { IsReady MOST_CELL_LINES (reader_view reader.old) }
+    ensures reader { Gives (λ _. reader_view reader.new) result
+        (param_directive_says line (reader_view reader.old) (words_left words.old)) }
+    ensures ready { OnOk result (IsReady (MOST_CELL_LINES + 1) (reader_view reader.new)) }
     ensures lines { lines_left words.new ≡ lines_left words.old }
 {
     param(&mut reader.last, line, words)?;
@@ -56,9 +55,10 @@ fn directive(
     first: FirstWord<'_>,
     words: &mut Cursor<'_>,
 ) -> Result<(), BlifFault>
-    requires { IsReady 1048576 (reader_view reader.old) }
-    ensures reader { Gives (λ _. reader_view reader.new) result (directive_says first.entry.line (reader_view reader.old) first.entry.word.now (words_left words.old)) }
-    ensures ready { OnOk result (IsReady 1048577 (reader_view reader.new)) }
+    requires { IsReady MOST_CELL_LINES (reader_view reader.old) }
+    ensures reader { Gives (λ _. reader_view reader.new) result (directive_says first.entry.line
+        (reader_view reader.old) first.entry.word.now (words_left words.old)) }
+    ensures ready { OnOk result (IsReady (MOST_CELL_LINES + 1) (reader_view reader.new)) }
     ensures lines { lines_left words.new ≡ lines_left words.old }
 {
     let word = first.word;
@@ -94,9 +94,10 @@ fn row_line<'a>(
     first: FirstWord<'a>,
     words: &mut Cursor<'a>,
 ) -> Result<(), BlifFault>
-    requires { IsReady 1048576 (reader_view reader.old) }
-    ensures reader { Gives (λ _. reader_view reader.new) result (row_or_fault first.entry.line (reader_view reader.old) first.entry.word.now (words_left words.old)) }
-    ensures ready { OnOk result (IsReady 1048577 (reader_view reader.new)) }
+    requires { IsReady MOST_CELL_LINES (reader_view reader.old) }
+    ensures reader { Gives (λ _. reader_view reader.new) result (row_or_fault first.entry.line
+        (reader_view reader.old) first.entry.word.now (words_left words.old)) }
+    ensures ready { OnOk result (IsReady (MOST_CELL_LINES + 1) (reader_view reader.new)) }
     ensures lines { lines_left words.new ≡ lines_left words.old }
 {
     if !reader.rows {
@@ -110,7 +111,8 @@ fn row_line<'a>(
 
 // Finds that there are too many signals, or too many lines that make a cell.
 fn check_limits(reader: &Reader, line: u32) -> Result<(), BlifFault>
-    ensures limits { Gives (λ _. reader_view reader.now) result (within_limits line (reader_view reader.now)) }
+    ensures limits { Gives (λ _. reader_view reader.now) result
+        (within_limits line (reader_view reader.now)) }
     ensures within { OnOk result (IsWithin (reader_view reader.now)) }
 {
     if reader.netlist.signals() > MOST_SIGNALS {
@@ -140,9 +142,15 @@ pub(crate) fn line<'a>(
     first: FirstWord<'a>,
     words: &mut Cursor<'a>,
 ) -> Result<(), BlifFault>
-    requires { IsReady 1048576 (reader_view reader.old) }
-    ensures reader { Gives (λ _. reader_view reader.new) result (line_says within_limits (record { number = first.entry.line; first = first.entry.word.now; others = words_left words.old }) (reader_view reader.old)) }
-    ensures ready { OnOk result (IsReady 1048576 (reader_view reader.new)) }
+    requires { IsReady MOST_CELL_LINES (reader_view reader.old) }
+    ensures reader { Gives (λ _. reader_view reader.new) result (line_says within_limits
+        (record {
+          number = first.entry.line;
+          first = first.entry.word.now;
+          others = words_left words.old;
+        })
+        (reader_view reader.old)) }
+    ensures ready { OnOk result (IsReady MOST_CELL_LINES (reader_view reader.new)) }
     ensures within { OnOk result (IsWithin (reader_view reader.new)) }
     ensures lines { lines_left words.new ≡ lines_left words.old }
 {

@@ -1,7 +1,6 @@
 //! Cells of `.gate` and `.subckt` lines.
-ghost use Rattle.std.specs.Prelude.{◌≡◌, ℕ, ◌<◌, ◌≤◌, length, OnOk, IfOk, IfErr, IfSome, All};
-ghost use Rattle.ice_net.specs.Formed.{IsBelow};
-ghost use Rattle.ice_net.specs.Kinds.{IsGateKind};
+ghost use Rattle.std.specs.Prelude.{◌≡◌, ℕ, ◌+◌, ◌<◌, ◌≤◌, length, OnOk, IfOk, IfErr, IfSome, All};
+ghost use Rattle.ice_net.specs.Formed.{IsBelow, IsGateKind};
 ghost use Rattle.ice_blif.specs.declared.fault.BlifFault.TheVariants.{NoMemory as out_of_memory};
 ghost use Rattle.ice_blif.specs.Answers.{Gives};
 ghost use Rattle.ice_blif.specs.Cells.{IsReadCell, IsReady};
@@ -12,7 +11,7 @@ use crate::BlifFault;
 use crate::cursor::Cursor;
 use crate::kind::GateKind;
 use crate::raw::RawNetlist;
-use crate::reader::{Last, Reader, join};
+use crate::reader::{Last, MOST_CELL_LINES, Reader, join};
 use crate::wiring::Wiring;
 use ice_base::SignalNo;
 use ice_net::{Cell, Signals};
@@ -63,7 +62,8 @@ fn connection(
     word: &[u8],
 ) -> Result<(), BlifFault>
     requires { All (IsBelow (length netlist.old.names)) wiring.old.signals }
-    ensures connection { Gives (λ _. (netlist.new, wiring_view wiring.new)) result (connection_says line gate netlist.old (wiring_view wiring.old) word.now) }
+    ensures connection { Gives (λ _. (netlist.new, wiring_view wiring.new)) result
+        (connection_says line gate netlist.old (wiring_view wiring.old) word.now) }
     ensures below { OnOk result (All (IsBelow (length netlist.new.names)) wiring.new.signals) }
     ensures kept { OnOk result (length netlist.old.names ≤ length netlist.new.names) }
     ensures cells { OnOk result (netlist.new.cells ≡ netlist.old.cells) }
@@ -87,8 +87,10 @@ fn connections(
     gate: GateKind,
     words: &mut Cursor<'_>,
 ) -> Result<Wiring, BlifFault>
-    ensures connections { Gives (λ wiring. (netlist.new, wiring_view wiring)) result (connections_say line gate netlist.old no_wiring (words_left words.old)) }
-    ensures below { IfOk result (λ wiring. All (IsBelow (length netlist.new.names)) wiring.signals) }
+    ensures connections { Gives (λ wiring. (netlist.new, wiring_view wiring)) result
+        (connections_say line gate netlist.old no_wiring (words_left words.old)) }
+    ensures below { IfOk result (λ wiring.
+        All (IsBelow (length netlist.new.names)) wiring.signals) }
     ensures kept { OnOk result (length netlist.old.names ≤ length netlist.new.names) }
     ensures cells { OnOk result (netlist.new.cells ≡ netlist.old.cells) }
     ensures lines { lines_left words.new ≡ lines_left words.old }
@@ -108,7 +110,8 @@ fn connections(
 fn cell(alloc: Global, line: u32, gate: GateKind, wiring: &Wiring) -> Result<Cell, BlifFault>
     requires { IsGateKind gate.kind }
     ensures cell { IfOk result (λ cell. cell ≡ cell_of line gate (wiring_view wiring.now)) }
-    ensures formed { IfOk result (λ cell. (signals : ℕ) → All (IsBelow signals) wiring.now.signals → IsReadCell signals cell) }
+    ensures formed { IfOk result (λ cell.
+        (signals : ℕ) → All (IsBelow signals) wiring.now.signals → IsReadCell signals cell) }
     ensures memory { IfErr result (λ e. e ≡ out_of_memory) }
 {
     let (ins, behind) = wiring.signals.split_at(gate.kind.ins_count());
@@ -130,9 +133,10 @@ pub(crate) fn gate(
     line: u32,
     words: &mut Cursor<'_>,
 ) -> Result<(), BlifFault>
-    requires { IsReady 1048576 (reader_view reader.old) }
-    ensures gate { Gives (λ _. reader_view reader.new) result (gate_says line (reader_view reader.old) (words_left words.old)) }
-    ensures ready { OnOk result (IsReady 1048577 (reader_view reader.new)) }
+    requires { IsReady MOST_CELL_LINES (reader_view reader.old) }
+    ensures gate { Gives (λ _. reader_view reader.new) result
+        (gate_says line (reader_view reader.old) (words_left words.old)) }
+    ensures ready { OnOk result (IsReady (MOST_CELL_LINES + 1) (reader_view reader.new)) }
     ensures lines { lines_left words.new ≡ lines_left words.old }
 {
     let Some(word) = words.next_word() else {

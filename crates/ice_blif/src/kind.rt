@@ -1,6 +1,6 @@
 //! The kinds of gates.
 ghost use Rattle.std.specs.Prelude.{◌≡◌, ◌<◌, IfSome};
-ghost use Rattle.ice_net.specs.Kinds.{IsGateKind};
+ghost use Rattle.ice_net.specs.Formed.{IsGateKind};
 ghost use Rattle.ice_blif.specs.Gates.{gate_kind_of, gate_place, gate_outs};
 
 use ice_net::{CellKind, kind_named};

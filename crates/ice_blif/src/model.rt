@@ -11,7 +11,7 @@ use crate::BlifFault;
 use crate::cursor::{Cursor, last_line};
 use crate::directive::line;
 use crate::raw::RawNetlist;
-use crate::reader::{Last, Reader, finish};
+use crate::reader::{Last, MOST_CELL_LINES, Reader, finish};
 use crate::registers::take_apart;
 use ice_net::Netlist;
 use std::alloc::Global;
@@ -31,9 +31,10 @@ fn after_end(words: &mut Cursor<'_>) -> Result<(), BlifFault>
 // The netlist of a reader that came to `.end`.
 #[tactic(auto, using(crate::proofs::OpenCells::finished_within))]
 fn ended(reader: Reader, words: &mut Cursor<'_>) -> Result<RawNetlist, BlifFault>
-    requires ready { IsReady 1048576 (reader_view reader) }
+    requires ready { IsReady MOST_CELL_LINES (reader_view reader) }
     requires within { IsWithin (reader_view reader) }
-    ensures netlist { Gives (λ n. n) result (ended (reader_view reader) (filled (lines_left words.old))) }
+    ensures netlist { Gives (λ n. n) result
+        (ended (reader_view reader) (filled (lines_left words.old))) }
     ensures limits { IfOk result IsRawWithin }
 {
     let mut netlist = reader.netlist;
@@ -44,7 +45,9 @@ fn ended(reader: Reader, words: &mut Cursor<'_>) -> Result<RawNetlist, BlifFault
 
 // Reads the lines behind `.model`, of a text whose last line has this number.
 fn model(alloc: Global, text: &[u8], words: &mut Cursor<'_>) -> Result<RawNetlist, BlifFault>
-    ensures netlist { Gives (λ n. n) result (model_says within_limits (last_number 0 (numbered 1 (lines text.now))) empty_reader (filled (lines_left words.old))) }
+    ensures netlist { Gives (λ n. n) result
+        (model_says within_limits (last_number 0 (numbered 1 (lines text.now))) empty_reader
+        (filled (lines_left words.old))) }
     ensures limits { IfOk result IsRawWithin }
 {
     let mut reader = Reader {

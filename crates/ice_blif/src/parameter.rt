@@ -1,7 +1,8 @@
 //! Parameters of cells.
 ghost use Rattle.std.specs.Prelude.{◌≡◌, ℕ, ◌<◌, ◌≤◌, ◌&&◌, nat_lt, Some, None, if◌then◌else◌, IfOk, IfSome, OnOk};
 ghost use Rattle.ice_blif.specs.Answers.{Gives};
-ghost use Rattle.ice_blif.specs.Gates.{is_digit, with_param_digit, bits_from, bits_in, bits_say, standard_says, KeepsForm};
+ghost use Rattle.ice_blif.specs.Gates.{with_param_digit};
+ghost use Rattle.ice_blif.specs.Parameters.{is_digit, bits_from, bits_in, bits_say, standard_says, KeepsForm};
 ghost use Rattle.ice_blif.specs.Cells.{lut_says, pad_says, kind_says, param_says, IsFormedLast};
 ghost use Rattle.ice_blif.specs.Views.{last_view, words_left, lines_left};
 
@@ -9,6 +10,9 @@ use crate::BlifFault;
 use crate::cursor::Cursor;
 use crate::reader::Last;
 use ice_net::CellKind;
+
+/// The values of a parameter are below this number, that of the tables of four inputs.
+const VALUES: u32 = 65_536;
 
 fn is_digit(b: u8) -> bool
     ensures { result ≡ is_digit b }
@@ -18,8 +22,9 @@ fn is_digit(b: u8) -> bool
 
 // The number behind another's digits and one more, where that is a digit and the number is below the limit.
 fn appended(limit: u32, number: u32, digit: u8) -> Option<u32>
-    requires { number < 65536 }
-    ensures { result ≡ (if is_digit digit && nat_lt (with_param_digit number digit) limit then Some (with_param_digit number digit) else None) }
+    requires { number < VALUES }
+    ensures { result ≡ (if is_digit digit && nat_lt (with_param_digit number digit) limit
+        then Some (with_param_digit number digit) else None) }
 {
     if !is_digit(digit) {
         return None;
@@ -35,7 +40,7 @@ fn appended(limit: u32, number: u32, digit: u8) -> Option<u32>
 
 fn bits_from(limit: u32, word: &[u8]) -> Option<u32>
     requires some { 0 < limit }
-    requires small { limit ≤ 65536 }
+    requires small { limit ≤ VALUES }
     ensures value { result ≡ bits_from limit 0 word.now }
     ensures below { IfSome result (λ n. n < limit) }
 {
@@ -49,7 +54,7 @@ fn bits_from(limit: u32, word: &[u8]) -> Option<u32>
 // The value of 1 to 128 digits, where it is below the limit.
 fn bits_in(limit: u32, word: &[u8]) -> Option<u32>
     requires some { 0 < limit }
-    requires small { limit ≤ 65536 }
+    requires small { limit ≤ VALUES }
     ensures value { result ≡ bits_in limit word.now }
     ensures below { IfSome result (λ n. n < limit) }
 {
@@ -62,7 +67,7 @@ fn bits_in(limit: u32, word: &[u8]) -> Option<u32>
 // The value of a parameter, below the limit.
 fn bits(limit: u32, line: u32, words: &mut Cursor<'_>) -> Result<u32, BlifFault>
     requires some { 0 < limit }
-    requires small { limit ≤ 65536 }
+    requires small { limit ≤ VALUES }
     ensures value { Gives (λ n. n) result (bits_say line limit (words_left words.old)) }
     ensures below { IfOk result (λ n. n < limit) }
     ensures lines { lines_left words.new ≡ lines_left words.old }
@@ -98,14 +103,15 @@ fn standard(line: u32, words: &mut Cursor<'_>) -> Result<bool, BlifFault>
 
 // A look-up table with a parameter.
 fn lut(line: u32, table: u16, name: &[u8], words: &mut Cursor<'_>) -> Result<CellKind, BlifFault>
-    ensures kind { Gives (λ kind. kind) result (lut_says line table name.now (words_left words.old)) }
+    ensures kind { Gives (λ kind. kind) result
+        (lut_says line table name.now (words_left words.old)) }
     ensures form { IfOk result (KeepsForm (CellKind.Lut table)) }
     ensures lines { lines_left words.new ≡ lines_left words.old }
 {
     if name != b"LUT_INIT".as_slice() {
         return Ok(CellKind::Lut { table });
     }
-    let table = bits(65536, line, words)? as u16;
+    let table = bits(VALUES, line, words)? as u16;
     Ok(CellKind::Lut { table })
 }
 
@@ -117,7 +123,8 @@ fn pad(
     name: &[u8],
     words: &mut Cursor<'_>,
 ) -> Result<CellKind, BlifFault>
-    ensures kind { Gives (λ kind. kind) result (pad_says line pin_type pullup name.now (words_left words.old)) }
+    ensures kind { Gives (λ kind. kind) result
+        (pad_says line pin_type pullup name.now (words_left words.old)) }
     ensures form { IfOk result (KeepsForm (CellKind.PadCell pin_type pullup)) }
     ensures lines { lines_left words.new ≡ lines_left words.old }
 {
@@ -147,7 +154,8 @@ fn kind(
     name: &[u8],
     words: &mut Cursor<'_>,
 ) -> Result<CellKind, BlifFault>
-    ensures kind { Gives (λ kind. kind) result (kind_says line before name.now (words_left words.old)) }
+    ensures kind { Gives (λ kind. kind) result
+        (kind_says line before name.now (words_left words.old)) }
     ensures form { IfOk result (KeepsForm before) }
     ensures lines { lines_left words.new ≡ lines_left words.old }
 {
@@ -161,8 +169,10 @@ fn kind(
 /// Reads the words behind `.param`, for the cell that was made last.
 #[tactic(auto, using(crate::proofs::KindForms::with_kind_formed))]
 pub(crate) fn param(last: &mut Last, line: u32, words: &mut Cursor<'_>) -> Result<(), BlifFault>
-    ensures last { Gives (λ _. last_view last.new) result (param_says line (last_view last.old) (words_left words.old)) }
-    ensures formed { OnOk result ((signals : ℕ) → IsFormedLast signals (last_view last.old) → IsFormedLast signals (last_view last.new)) }
+    ensures last { Gives (λ _. last_view last.new) result
+        (param_says line (last_view last.old) (words_left words.old)) }
+    ensures formed { OnOk result ((signals : ℕ) → IsFormedLast signals (last_view last.old)
+        → IsFormedLast signals (last_view last.new)) }
     ensures lines { lines_left words.new ≡ lines_left words.old }
 {
     let Some(name) = words.next_word() else {

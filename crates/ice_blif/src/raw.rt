@@ -1,10 +1,11 @@
 //! A netlist whose cells are as their lines say them.
 ghost use Rattle.std.specs.Prelude.{◌≡◌, ◌<◌, ◌≤◌, length, All, OnOk, IfOk, IfErr};
-ghost use Rattle.ice_net.specs.NetlistData.{empty_netlist, with_port, way_of};
+ghost use Rattle.ice_net.specs.NetlistData.{empty_netlist, with_port};
+ghost use Rattle.ice_net.specs.Ways.{way_of};
 ghost use Rattle.ice_blif.specs.declared.fault.BlifFault.TheVariants.{NoMemory as out_of_memory};
-ghost use Rattle.ice_blif.specs.Cells.{IsReadCell, with_cell};
+ghost use Rattle.ice_blif.specs.Cells.{IsReadCell};
 ghost use Rattle.ice_blif.specs.Registers.{without_cells};
-ghost use Rattle.ice_blif.specs.State.{named, signal_of};
+ghost use Rattle.ice_blif.specs.State.{named, signal_of, with_cell};
 
 use crate::BlifFault;
 use crate::signal::number;
@@ -28,7 +29,8 @@ impl Model for RawNetlist {
 
     ghost Value = { NetlistData };
 
-    ghost view = { λ raw. record { names = raw.netlist.names; ports = raw.netlist.ports; cells = raw.cells.items } };
+    ghost view = { λ raw.
+        record { names = raw.netlist.names; ports = raw.netlist.ports; cells = raw.cells.items } };
 
     ghost invariant = { λ raw. IsRaw raw.netlist raw.cells.items };
 }
@@ -80,7 +82,8 @@ impl RawNetlist {
     /// Makes a signal a port, or Both where it is a port of another way.
     pub(crate) fn port(&mut self, signal: SignalNo, way: Way) -> Result<(), BlifFault>
         requires { signal.0 < length self.old.names }
-        ensures added { OnOk result (self.new ≡ record self.old { ports = with_port self.old.ports signal way }) }
+        ensures added { OnOk result
+            (self.new ≡ record self.old { ports = with_port self.old.ports signal way }) }
         ensures memory { IfErr result (λ e. e ≡ out_of_memory) }
     {
         self.netlist.port(signal, way)?;

@@ -1,7 +1,8 @@
 //! What is read so far of a netlist text.
-ghost use Rattle.std.specs.Prelude.{◌≡◌, ◌≤◌, length, OnOk, IfErr};
+ghost use Rattle.std.specs.Prelude.{◌≡◌, ◌+◌, ◌≤◌, length, OnOk, IfErr};
 ghost use Rattle.ice_blif.specs.declared.fault.BlifFault.TheVariants.{NoMemory as out_of_memory};
-ghost use Rattle.ice_blif.specs.Cells.{finished, cover_cell, IsFormedLast, IsReady};
+ghost use Rattle.ice_blif.specs.Cells.{IsFormedLast, IsReady};
+ghost use Rattle.ice_blif.specs.State.{finished, cover_cell};
 ghost use Rattle.ice_blif.specs.Grammar.{with_last};
 ghost use Rattle.ice_blif.specs.Views.{cover_view, last_view, reader_view};
 
@@ -10,6 +11,9 @@ use crate::cover::table_of;
 use crate::raw::RawNetlist;
 use ice_net::{Cell, CellKind, Signals};
 use std::mem::replace;
+
+/// The lines that make a cell that a netlist may have.
+pub(crate) const MOST_CELL_LINES: u32 = 1_048_576;
 
 /// A cover, whose rows may be read.
 #[derive(Drop)]
@@ -82,11 +86,12 @@ pub(crate) fn finish(netlist: &mut RawNetlist, last: Last) -> Result<(), BlifFau
 /// Makes a new last cell; the one before joins the others.
 #[tactic(auto, using(crate::proofs::OpenCells::last_ready))]
 pub(crate) fn join(reader: &mut Reader, now: Last, rows: bool) -> Result<(), BlifFault>
-    requires few { length reader.old.netlist.cells ≤ 1048576 }
+    requires few { length reader.old.netlist.cells ≤ MOST_CELL_LINES }
     requires formed { IsFormedLast (length reader.old.netlist.names) (last_view reader.old.last) }
     requires now { IsFormedLast (length reader.old.netlist.names) (last_view now) }
-    ensures reader { OnOk result (reader_view reader.new ≡ with_last reader.old.netlist (last_view reader.old.last) (last_view now) rows) }
-    ensures ready { OnOk result (IsReady 1048577 (reader_view reader.new)) }
+    ensures reader { OnOk result (reader_view reader.new
+        ≡ with_last reader.old.netlist (last_view reader.old.last) (last_view now) rows) }
+    ensures ready { OnOk result (IsReady (MOST_CELL_LINES + 1) (reader_view reader.new)) }
     ensures memory { IfErr result (λ e. e ≡ out_of_memory) }
 {
     let before = replace(&mut reader.last, now);

@@ -3,12 +3,14 @@ ghost use Rattle.std.specs.Prelude.{◌≡◌, ◌+◌, ◌*◌, ◌<◌, ◌≤
 ghost use Rattle.ice_net.specs.Formed.{IsFormedCell};
 ghost use Rattle.ice_blif.specs.declared.fault.BlifFault.TheVariants.{NoMemory as out_of_memory};
 ghost use Rattle.ice_blif.specs.Answers.{Gives};
-ghost use Rattle.ice_blif.specs.Cells.{IsReadCell, IsPad, own_cell, with_cell};
-ghost use Rattle.ice_blif.specs.Registers.{hidden_name, register, input_pad, input_register, output_pad, output_register, buffer_of, with_input, with_output, with_pad, with_cells_of, with_buffer, with_apart, few_signals, apart_says, taken_apart_says};
-ghost use Rattle.ice_blif.specs.State.{named, signal_of};
+ghost use Rattle.ice_blif.specs.Cells.{IsReadCell, IsPad};
+ghost use Rattle.ice_blif.specs.Registers.{hidden_name, register, input_pad, input_register, output_pad, output_register, buffer_of, with_input, with_output, with_pad, with_cells_of, with_buffer, with_apart};
+ghost use Rattle.ice_blif.specs.FewSignals.{few_signals, apart_says, taken_apart_says};
+ghost use Rattle.ice_blif.specs.State.{named, signal_of, own_cell, with_cell};
 
 use crate::BlifFault;
 use crate::raw::RawNetlist;
+use crate::reader::MOST_CELL_LINES;
 use crate::signal::number;
 use ice_base::SignalNo;
 use ice_net::{Cell, CellKind, MOST_SIGNALS, Netlist, Reset, Signals, signal_at};
@@ -46,7 +48,8 @@ fn hidden_signal(
     line: u32,
     word: &[u8],
 ) -> Result<SignalNo, BlifFault>
-    ensures signal { IfOk result (λ signal. signal ≡ signal_of netlist.old (hidden_name line word.now)) }
+    ensures signal { IfOk result (λ signal.
+        signal ≡ signal_of netlist.old (hidden_name line word.now)) }
     ensures named { OnOk result (netlist.new ≡ named netlist.old (hidden_name line word.now)) }
     ensures within { IfOk result (λ signal. signal.0 < length netlist.new.names) }
     ensures kept { length netlist.old.names ≤ length netlist.new.names }
@@ -201,7 +204,9 @@ fn add_input(
 ) -> Result<(), BlifFault>
     requires few { length netlist.old.cells ≤ 3145725 }
     requires pad { IsPad (length netlist.old.names) cell }
-    ensures netlist { OnOk result (netlist.new ≡ with_input (named netlist.old (hidden_name cell.line (codes "in"))) cell pullup (signal_of netlist.old (hidden_name cell.line (codes "in")))) }
+    ensures netlist { OnOk result
+        (netlist.new ≡ with_input (named netlist.old (hidden_name cell.line (codes "in"))) cell
+        pullup (signal_of netlist.old (hidden_name cell.line (codes "in")))) }
     ensures memory { IfErr result (λ e. e ≡ out_of_memory) }
 {
     let hidden = hidden_signal(alloc, netlist, cell.line, b"in")?;
@@ -219,7 +224,9 @@ fn add_output(
 ) -> Result<(), BlifFault>
     requires few { length netlist.old.cells ≤ 3145725 }
     requires pad { IsPad (length netlist.old.names) cell }
-    ensures netlist { OnOk result (netlist.new ≡ with_output (named netlist.old (hidden_name cell.line (codes "out"))) cell pullup (signal_of netlist.old (hidden_name cell.line (codes "out")))) }
+    ensures netlist { OnOk result
+        (netlist.new ≡ with_output (named netlist.old (hidden_name cell.line (codes "out"))) cell
+        pullup (signal_of netlist.old (hidden_name cell.line (codes "out")))) }
     ensures memory { IfErr result (λ e. e ≡ out_of_memory) }
 {
     let hidden = hidden_signal(alloc, netlist, cell.line, b"out")?;
@@ -295,7 +302,8 @@ fn add_apart(alloc: Global, netlist: &mut Netlist, cell: Cell) -> Result<(), Bli
 fn add(alloc: Global, netlist: &mut Netlist, cell: Cell) -> Result<(), BlifFault>
     requires few { length netlist.old.cells ≤ 3145725 }
     requires read { IsReadCell (length netlist.old.names) cell }
-    ensures netlist { Gives (λ _. netlist.new) result (few_signals cell.line (with_apart netlist.old cell)) }
+    ensures netlist { Gives (λ _. netlist.new) result
+        (few_signals cell.line (with_apart netlist.old cell)) }
     ensures added { OnOk result (netlist.new ≡ with_apart netlist.old cell) }
 {
     let line = cell.line;
@@ -324,7 +332,7 @@ fn add_all(alloc: Global, netlist: &mut Netlist, cells: Vec<Cell>) -> Result<(),
 /// The netlist of one whose cells are as their lines say them: each pad with a register becomes a pad without one and an SB_DFFE,
 /// and each pad that feeds a global gets an SB_GB behind it.
 pub(crate) fn take_apart(alloc: Global, raw: RawNetlist) -> Result<Netlist, BlifFault>
-    requires { length raw.cells ≤ 1048576 }
+    requires { length raw.cells ≤ MOST_CELL_LINES }
     ensures { Gives (λ n. n) result (taken_apart_says raw) }
 {
     let (mut netlist, cells) = raw.into_parts();

@@ -59,7 +59,8 @@ pub(crate) fn ports(
     way: Way,
     words: &mut Cursor<'_>,
 ) -> Result<(), BlifFault>
-    ensures ports { Gives (λ _. netlist.new) result (ports_say line way netlist.old (words_left words.old)) }
+    ensures ports { Gives (λ _. netlist.new) result
+        (ports_say line way netlist.old (words_left words.old)) }
     ensures kept { OnOk result (length netlist.old.names ≤ length netlist.new.names) }
     ensures cells { OnOk result (netlist.new.cells ≡ netlist.old.cells) }
     ensures lines { lines_left words.new ≡ lines_left words.old }

@@ -16,9 +16,11 @@ use Rattle.ice_net.specs.declared.port.Way.{Way}
 use Rattle.ice_net.specs.declared.port.Way.TheVariants.{Input, Output}
 use Rattle.ice_net.specs.declared.port.Way.TheVariants as way
 use Rattle.ice_net.specs.Drivers.{is_signal, place_of, is_there, pin_of, has_buffer, pad_signals, outputs, driver_from, driver_of}
-use Rattle.ice_net.specs.Drives.{output_type, enabled_type, data_of, enable_of, pad_uses, uses_by}
+use Rattle.ice_net.specs.Drives.{output_type, enabled_type}
+use Rattle.ice_net.specs.Uses.{data_of, enable_of, pad_uses, uses_by}
 use Rattle.ice_net.specs.Meaning.{reads, depends_on}
-use Rattle.ice_net.specs.NetlistData.{NetlistData, way_by, way_at}
+use Rattle.ice_net.specs.NetlistData.{NetlistData}
+use Rattle.ice_net.specs.Ways.{way_by, way_at}
 use Rattle.ice_check.specs.Faults.{first_number, uses_of, shown_by, shown_of, is_nothing, is_undriven, is_driven_twice, port_is, is_shared, is_bare_by, is_bare, cell_is, is_type_out, is_no_way, is_no_port, is_portless}
 use Rattle.ice_check.specs.Loops.{HasNoLoop}
 use Rattle.ice_check.specs.Sound.{IsSound}

@@ -8,11 +8,14 @@ use Rattle.ice_net.specs.declared.port.Way.TheVariants.{Input, Output}
 use Rattle.ice_net.specs.NetlistData.{NetlistData, empty_netlist}
 use Rattle.ice_blif.specs.declared.fault.BlifFault.{BlifFault}
 use Rattle.ice_blif.specs.declared.fault.BlifFault.TheVariants.{NoModel, SecondModel, UnknownDirective, TooMany}
-use Rattle.ice_blif.specs.State.{LastCell, NetReading, Nothing}
-use Rattle.ice_blif.specs.JoinedLines.{FilledLine, joined, filled, last_number, continued, goes_on_by, plain_by, with_next, later_joined}
-use Rattle.ice_blif.specs.Cells.{◌>>=◌, param_says, finished, count_of}
+use Rattle.ice_blif.specs.State.{LastCell, Nothing, finished}
+use Rattle.ice_blif.specs.Reading.{NetReading}
+use Rattle.ice_blif.specs.JoinedLines.{FilledLine, joined, filled, last_number, goes_on_by, plain_by, with_next, later_joined}
+use Rattle.ice_blif.specs.Continued.{continued}
+use Rattle.ice_blif.specs.Cells.{◌>>=◌, param_says, count_of}
 use Rattle.ice_blif.specs.Grammar.{ports_say, without_rows, gate_says, names_say, row_line, row_or_fault, port_directive_says, param_directive_says, directive_says, within_limits, line_says, after_end, ended, model_says, empty_reader, lines_say, netlist_of}
-use Rattle.ice_blif.specs.Registers.{with_apart, all_apart, without_cells, taken_apart, few_signals, apart_says, taken_apart_says}
+use Rattle.ice_blif.specs.Registers.{with_apart, all_apart, without_cells, taken_apart}
+use Rattle.ice_blif.specs.FewSignals.{few_signals, apart_says, taken_apart_says}
 use Rattle.ice_blif.proofs.Kept.{bind_keeps, either, any_ok, weaker}
 use Rattle.ice_blif_laws.specs.NetlistText.{join, joined_lines, NetSoFar, port_joins, gate_directive, signal_joins, cover_joins, row_joins_cover, param_joins, directive_joins, blif_line_joins, model_lines, blif_lines_join, netlist_in, NetlistTextsSayNetlists}
 use Rattle.ice_blif_laws.proofs.TextParams.{param_said}

@@ -5,9 +5,10 @@ use Rattle.ice_net.specs.declared.cell.Cell.{Cell}
 use Rattle.ice_net.specs.declared.kind.CellKind.{CellKind}
 use Rattle.ice_net.specs.declared.kind.CellKind.TheVariants.{Lut, Cover, Carry, Flop, PadCell, Global}
 use Rattle.ice_blif.specs.declared.fault.BlifFault.{BlifFault}
-use Rattle.ice_blif.specs.Gates.{with_param_digit, bits_from, read_value, bits_say, standard_says, is_digit}
-use Rattle.ice_blif.specs.State.{LastCell, Nothing, Gate, Rows}
-use Rattle.ice_blif.specs.Cells.{◌>>=◌, lut_says, pad_says, kind_says, with_kind, param_says}
+use Rattle.ice_blif.specs.Gates.{with_param_digit}
+use Rattle.ice_blif.specs.Parameters.{bits_from, read_value, bits_say, standard_says, is_digit}
+use Rattle.ice_blif.specs.State.{LastCell, Nothing, Gate, Rows, with_kind}
+use Rattle.ice_blif.specs.Cells.{◌>>=◌, lut_says, pad_says, kind_says, param_says}
 use Rattle.ice_blif.proofs.Kept.{bind_keeps, any_ok}
 use Rattle.ice_blif_laws.specs.NetlistText.{kind_with, param_joins}
 

@@ -4,15 +4,17 @@ use Rattle.std.specs.Option.{option_and_then}
 use Rattle.ice_base.specs.declared.number.SignalNo.{SignalNo}
 use Rattle.ice_net.specs.declared.port.Way.{Way}
 use Rattle.ice_net.specs.Kinds.{ins_count}
-use Rattle.ice_net.specs.NetlistData.{NetlistData, way_of}
+use Rattle.ice_net.specs.NetlistData.{NetlistData}
+use Rattle.ice_net.specs.Ways.{way_of}
 use Rattle.ice_base.specs.Lists.{number_of_name}
 use Rattle.ice_blif.specs.declared.fault.BlifFault.{BlifFault}
 use Rattle.ice_blif.specs.declared.fault.BlifFault.TheVariants.{PortTwice, BadCover, TooWide}
 use Rattle.ice_blif.specs.GateForms.{GateForm}
 use Rattle.ice_blif.specs.Gates.{gate_kind_of, gate_place}
-use Rattle.ice_blif.specs.State.{OpenCover, LastCell, NetReading, Connections, Nothing, Gate, Rows, named, signal_of}
-use Rattle.ice_blif.specs.Cells.{with_cover_row, row_of_level, cover_row_of, cover_row_says}
-use Rattle.ice_blif.specs.Covers.{level_of_word, is_row, agrees}
+use Rattle.ice_blif.specs.State.{OpenCover, LastCell, Nothing, Gate, Rows, named, signal_of, with_cover_row}
+use Rattle.ice_blif.specs.Reading.{NetReading, Connections}
+use Rattle.ice_blif.specs.Cells.{row_of_level, cover_row_of, cover_row_says, is_row, agrees}
+use Rattle.ice_blif.specs.Covers.{level_of_word}
 use Rattle.ice_blif.specs.Grammar.{was_named, with_named_port, port_says, ports_say, no_wiring, is_missing, after_actual, actual_signal, connect_at, connect_by, equals_at, connection_says, connections_say, cell_of, with_last, gate_of_kind, gate_says, cover_signals, cover_of, names_say, row_line}
 use Rattle.ice_blif.proofs.Kept.{bind_keeps, either, weaker}
 use Rattle.ice_blif_laws.specs.NetlistText.{NetSoFar, Wiring, port_joins, actual_joins, connection_joins, connections_join, gate_joins, gate_directive, signal_joins, cover_joins, cover_row, row_joins_cover}

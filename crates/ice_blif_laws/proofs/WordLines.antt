@@ -1,9 +1,11 @@
 -- The joined lines of a text have words alone.
 use Rattle.std.proofs.Common.{◌≡◌, ℕ, zero, suc, ◌<◌, Bool, true, false, Option, None, Some, List, [], ◌∷◌, length, drop, filter, nat_lt, refl, if◌then◌else◌, rules, tests}
 use Rattle.std.specs.List.{AllByRecursion}
-use Rattle.ice_base.specs.Text.{onto_first, pieces, words, ends_word, IsWord, lines, numbered, begins_with, uncommented}
+use Rattle.ice_base.specs.Text.{onto_first, pieces, words, ends_word, lines, numbered, begins_with, uncommented}
+use Rattle.ice_base.specs.Lines.{IsWord}
 use Rattle.ice_base.proofs.TextLines.{all_append}
-use Rattle.ice_blif.specs.JoinedLines.{FilledLine, continued, goes_on, plain_by, plain, first_words, with_next, later_joined, joined, fill, filled}
+use Rattle.ice_blif.specs.JoinedLines.{FilledLine, goes_on, plain_by, plain, first_words, with_next, later_joined, joined, fill, filled}
+use Rattle.ice_blif.specs.Continued.{continued}
 
 -- ---- lists
 

@@ -2,23 +2,27 @@
 use Rattle.std.proofs.Common.{◌≡◌, inl, inr, ℕ, ◌+◌, Bool, true, false, ◌||◌, List, [], ◌∷◌, ◌++◌, length, drop, take, nat_lt, nat_le, Option, Some, None, Result, Ok, Err, IfOk, if◌then◌else◌, codes, bytes_eq, refl, sym, subst, arith}
 use Rattle.std.specs.List.{AllByRecursion, list_any}
 use Rattle.std.proofs.lemmas.List.Elements.{All-from_recursion}
-use Rattle.ice_base.specs.Text.{lines, numbered, IsWord, begins_with}
+use Rattle.ice_base.specs.Text.{lines, numbered, begins_with}
+use Rattle.ice_base.specs.Lines.{IsWord}
 use Rattle.ice_base.specs.Lists.{with_name, number_of_name}
 use Rattle.ice_base.specs.declared.number.SignalNo.{SignalNo}
 use Rattle.ice_base.proofs.TextLines.{all_append}
 use Rattle.ice_net.specs.declared.port.Way.{Way}
 use Rattle.ice_net.specs.declared.port.Way.TheVariants.{Input, Output}
 use Rattle.ice_net.specs.Kinds.{ins_count}
-use Rattle.ice_net.specs.NetlistData.{NetlistData, way_of}
+use Rattle.ice_net.specs.NetlistData.{NetlistData}
+use Rattle.ice_net.specs.Ways.{way_of}
 use Rattle.ice_blif.specs.declared.fault.BlifFault.{BlifFault}
 use Rattle.ice_blif.specs.declared.fault.BlifFault.TheVariants.{NoModel, SecondModel, UnknownDirective, PortTwice, TooWide, TooMany}
 use Rattle.ice_blif.specs.GateForms.{GateForm}
 use Rattle.ice_blif.specs.Gates.{gate_kind_of, gate_place}
-use Rattle.ice_blif.specs.State.{named, signal_of, LastCell, NetReading, Connections, Nothing, Gate, Rows}
+use Rattle.ice_blif.specs.State.{named, signal_of, LastCell, Nothing, Gate, Rows, finished}
+use Rattle.ice_blif.specs.Reading.{NetReading, Connections}
 use Rattle.ice_blif.specs.JoinedLines.{FilledLine, joined, filled, last_number}
-use Rattle.ice_blif.specs.Cells.{◌>>=◌, cover_row_says, param_says, finished, count_of}
+use Rattle.ice_blif.specs.Cells.{◌>>=◌, cover_row_says, param_says, count_of}
 use Rattle.ice_blif.specs.Grammar.{was_named, with_named_port, port_says, ports_say, no_wiring, is_missing, after_actual, connect_at, connect_by, equals_at, connection_says, connections_say, cell_of, with_last, without_rows, gate_of_kind, gate_says, cover_signals, new_cover, cover_of, names_say, row_line, row_or_fault, port_directive_says, param_directive_says, directive_says, within_limits, line_says, after_end, ended, model_says, empty_reader, lines_say, text_says}
-use Rattle.ice_blif.specs.Registers.{hidden_name, taken_apart_says, without_cells}
+use Rattle.ice_blif.specs.Registers.{hidden_name, without_cells}
+use Rattle.ice_blif.specs.FewSignals.{taken_apart_says}
 use Rattle.ice_blif.proofs.Apart.{HiddenKeep, all_keep, said_apart}
 use Rattle.ice_blif.proofs.Growing.{text_small}
 use Rattle.ice_blif.proofs.Kept.{bind_keeps, either, any_ok, bound}

@@ -13,9 +13,8 @@ use Rattle.ice_net.specs.Kinds.{ins_count}
 use Rattle.ice_net.specs.NetlistData.{NetlistData, empty_netlist, with_port}
 use Rattle.ice_blif.specs.GateForms.{GateForm}
 use Rattle.ice_blif.specs.Gates.{gate_kind_of, gate_place, gate_outs, with_param_digit}
-use Rattle.ice_blif.specs.State.{OpenCover, LastCell, Nothing, Gate, Rows, named, signal_of}
-use Rattle.ice_blif.specs.JoinedLines.{continued}
-use Rattle.ice_blif.specs.Cells.{with_cover_row, with_kind, finished}
+use Rattle.ice_blif.specs.State.{OpenCover, LastCell, Nothing, Gate, Rows, named, signal_of, with_cover_row, with_kind, finished}
+use Rattle.ice_blif.specs.Continued.{continued}
 use Rattle.ice_blif.specs.Covers.{level_of_word}
 use Rattle.ice_blif.specs.Grammar.{netlist_of}
 use Rattle.ice_blif.specs.Registers.{taken_apart}

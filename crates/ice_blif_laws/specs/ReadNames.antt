@@ -1,6 +1,6 @@
 -- The names of netlists that were read.
 use Rattle.std.specs.Prelude.{◌≡◌, ◌⊎◌, ℕ, List, All, Ok, codes}
-use Rattle.ice_base.specs.Text.{IsWord}
+use Rattle.ice_base.specs.Lines.{IsWord}
 use Rattle.ice_net.specs.NetlistData.{NetlistData}
 use Rattle.ice_blif.specs.Grammar.{netlist_of}
 use Rattle.ice_blif.specs.Registers.{hidden_name}

@@ -11,11 +11,12 @@ use Rattle.ice_net.specs.Formed.{IsBelow}
 use Rattle.ice_net.specs.Kinds.{ins_count, outs_count}
 use Rattle.ice_net.specs.NetlistData.{NetlistData}
 use Rattle.ice_blif.specs.declared.fault.BlifFault.{BlifFault}
-use Rattle.ice_blif.specs.Cells.{◌>>=◌, kind_says, with_kind}
+use Rattle.ice_blif.specs.Cells.{◌>>=◌, kind_says}
 use Rattle.ice_blif.specs.GateForms.{GateForm}
 use Rattle.ice_blif.specs.Gates.{plain_gate, gate_kind_of}
 use Rattle.ice_blif.specs.Grammar.{no_wiring, cell_of, with_last, gate_of_kind, line_says, no_limits}
-use Rattle.ice_blif.specs.State.{Connections, LastCell, NetReading, Gate}
+use Rattle.ice_blif.specs.State.{LastCell, Gate, with_kind}
+use Rattle.ice_blif.specs.Reading.{Connections, NetReading}
 use Rattle.ice_blif_write.specs.RoundTrip.{IsName, named_signal, IsDefined}
 use Rattle.ice_blif_write.specs.Text.{name_of, connections, param_line}
 use Rattle.ice_blif_write.proofs.GateRead.{MayBeActual, AreActuals, ArePlaced, IsWired, none_wired, nones, AreRead, signals_read}

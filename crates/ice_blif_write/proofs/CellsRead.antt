@@ -9,13 +9,14 @@ use Rattle.ice_net.specs.declared.kind.CellKind.TheVariants.{Lut, Cover, Carry, 
 use Rattle.ice_net.specs.declared.kind.Reset.{Reset}
 use Rattle.ice_net.specs.declared.kind.Reset.TheVariants.{Nothing, SyncReset, AsyncReset, SyncSet, AsyncSet}
 use Rattle.ice_net.specs.declared.port.Port.{Port}
-use Rattle.ice_net.specs.Formed.{IsBelow, IsPresent, IsFormedCell}
-use Rattle.ice_net.specs.Kinds.{ins_count, outs_count, IsGateKind}
+use Rattle.ice_net.specs.Formed.{IsBelow, IsPresent, IsFormedCell, IsGateKind}
+use Rattle.ice_net.specs.Kinds.{ins_count, outs_count}
 use Rattle.ice_net.specs.NetlistData.{NetlistData}
 use Rattle.ice_blif.specs.declared.fault.BlifFault.{BlifFault}
-use Rattle.ice_blif.specs.Cells.{◌>>=◌, finished, cover_cell, kind_says, with_kind}
+use Rattle.ice_blif.specs.Cells.{◌>>=◌, kind_says}
 use Rattle.ice_blif.specs.Covers.{table_of}
-use Rattle.ice_blif.specs.State.{OpenCover, NetReading}
+use Rattle.ice_blif.specs.State.{OpenCover, finished, cover_cell, with_kind}
+use Rattle.ice_blif.specs.Reading.{NetReading}
 use Rattle.ice_blif_write.specs.RoundTrip.{IsName, named_signal, IsDefined, IsDefinedCell, IsSmallKind, IsSmallCell}
 use Rattle.ice_blif_write.specs.Text.{Words, port_names, kind_word, gate_line, first_line, param_line, digits_of, rows_from, cell_lines, lines_below}
 use Rattle.ice_blif_write.proofs.CellRead.{all_named, all_actual, IsGateRead, gate_read, at_gate, param_read}

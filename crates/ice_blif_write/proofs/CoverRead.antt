@@ -7,9 +7,10 @@ use Rattle.ice_net.specs.Meaning.{table_bit}
 use Rattle.ice_net.specs.NetlistData.{NetlistData}
 use Rattle.ice_blif.specs.declared.fault.BlifFault.{BlifFault}
 use Rattle.ice_blif.specs.declared.fault.BlifFault.TheVariants.{TooWide, BadCover}
-use Rattle.ice_blif.specs.Cells.{◌>>=◌, level_alone, row_and_level, row_parts, with_cover_row, cover_row_of, row_of_level, cover_row_says}
-use Rattle.ice_blif.specs.Covers.{is_row_digit, is_row, level_of_word, agrees}
-use Rattle.ice_blif.specs.State.{named, signal_of, OpenCover, NetReading, Rows}
+use Rattle.ice_blif.specs.Cells.{◌>>=◌, level_alone, row_and_level, row_parts, cover_row_of, row_of_level, cover_row_says, is_row_digit, is_row, agrees}
+use Rattle.ice_blif.specs.Covers.{level_of_word}
+use Rattle.ice_blif.specs.State.{named, signal_of, OpenCover, Rows, with_cover_row}
+use Rattle.ice_blif.specs.Reading.{NetReading}
 use Rattle.ice_blif.specs.Grammar.{new_cover, cover_signals, cover_of, with_last, row_or_fault, directive_says, line_says, no_limits}
 use Rattle.ice_blif_write.specs.RoundTrip.{named_signal}
 use Rattle.ice_blif_write.specs.Text.{Words, name_of, signal_words, digit_of, levels_of, row_line, rows_from}

@@ -1,7 +1,8 @@
 -- The digits that are written for a number are read as this number.
 use Rattle.std.proofs.Common.{◌≡◌, ℕ, ◌+◌, ◌*◌, ◌/◌, ◌%◌, ◌^◌, ◌<◌, ◌≤◌, ◌&&◌, zero, suc, true, Some, None, Ok, [], ◌∷◌, length, nat_lt, nat_le, if◌then◌else◌, refl, sym, ap, ◌∙◌, arith, rules, tests, pow-suc}
 use Rattle.std.proofs.Math.Nat.{div-le_self, div-one, div-div-eq-div-mul, div-eq_of_lt}
-use Rattle.ice_blif.specs.Gates.{is_digit, with_param_digit, bits_from, bits_say, read_value}
+use Rattle.ice_blif.specs.Gates.{with_param_digit}
+use Rattle.ice_blif.specs.Parameters.{is_digit, bits_from, bits_say, read_value}
 use Rattle.ice_blif_write.specs.Text.{digit_of, digits_of}
 
 pub digits_long : (width n : ℕ) → length (digits_of width n) ≡ width

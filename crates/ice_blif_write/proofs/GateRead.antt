@@ -10,11 +10,13 @@ use Rattle.ice_net.specs.declared.kind.CellKind.{CellKind}
 use Rattle.ice_net.specs.declared.kind.CellKind.TheVariants.{Lut, Cover, Carry, Flop, PadCell, Global}
 use Rattle.ice_net.specs.declared.kind.Reset.{Reset}
 use Rattle.ice_net.specs.declared.kind.Reset.TheVariants.{Nothing, SyncReset, AsyncReset, SyncSet, AsyncSet}
-use Rattle.ice_net.specs.Kinds.{port_place, ins_count, IsGateKind}
+use Rattle.ice_net.specs.Kinds.{port_place, ins_count}
+use Rattle.ice_net.specs.Formed.{IsGateKind}
 use Rattle.ice_net.specs.NetlistData.{NetlistData}
 use Rattle.ice_blif.specs.Cells.{◌>>=◌}
 use Rattle.ice_blif.specs.Gates.{plain_gate, gate_kind_of}
-use Rattle.ice_blif.specs.State.{named, signal_of, Connections}
+use Rattle.ice_blif.specs.State.{named, signal_of}
+use Rattle.ice_blif.specs.Reading.{Connections}
 use Rattle.ice_blif.specs.Grammar.{no_wiring, wired, is_missing, connect, connect_at, connect_by, equals_at, connection_says, connections_say}
 use Rattle.ice_blif.specs.declared.fault.BlifFault.TheVariants.{PortTwice}
 use Rattle.ice_blif_write.specs.RoundTrip.{IsName, named_signal}

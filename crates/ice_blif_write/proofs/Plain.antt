@@ -10,9 +10,8 @@ use Rattle.ice_net.specs.declared.kind.CellKind.TheVariants.{Lut, Cover, Carry, 
 use Rattle.ice_net.specs.Formed.{IsFormedCell}
 use Rattle.ice_net.specs.Kinds.{outs_count}
 use Rattle.ice_net.specs.NetlistData.{NetlistData}
-use Rattle.ice_blif.specs.Cells.{own_cell, with_cell}
 use Rattle.ice_blif.specs.Registers.{hidden_name, buffer, with_input, with_output, with_pad, with_cells_of, with_buffer, with_apart, all_apart, taken_apart}
-use Rattle.ice_blif.specs.State.{named, signal_of}
+use Rattle.ice_blif.specs.State.{named, signal_of, own_cell, with_cell}
 use Rattle.ice_blif_write.specs.RoundTrip.{IsPlainKind, IsPlainCell, named_signal, NamedCell, named_cell}
 
 pad_plain : (n : NetlistData) (cell : Cell) (pin_type : ℕ) (pullup : Bool) → pin_type ≢ 0 → pin_type ≢ 21 → with_pad n cell pin_type pullup ≡ with_cell n cell

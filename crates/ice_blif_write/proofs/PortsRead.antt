@@ -11,11 +11,13 @@ use Rattle.ice_net.specs.declared.port.Port.{Port}
 use Rattle.ice_net.specs.declared.port.Way.{Way}
 use Rattle.ice_net.specs.declared.port.Way.TheVariants.{Input, Output, Both}
 use Rattle.ice_net.specs.Formed.{IsPortBelow, IsSingle}
-use Rattle.ice_net.specs.NetlistData.{NetlistData, is_at, port_at, port_by, port_again, with_port, way_of, way_at, way_by}
+use Rattle.ice_net.specs.NetlistData.{NetlistData, is_at, port_at, port_by, port_again, with_port}
+use Rattle.ice_net.specs.Ways.{way_of, way_at, way_by}
 use Rattle.ice_blif.specs.declared.fault.BlifFault.{BlifFault}
 use Rattle.ice_blif.specs.declared.fault.BlifFault.TheVariants.{PortTwice}
 use Rattle.ice_blif.specs.Cells.{◌>>=◌}
-use Rattle.ice_blif.specs.State.{signal_of, NetReading, Nothing}
+use Rattle.ice_blif.specs.State.{signal_of, Nothing}
+use Rattle.ice_blif.specs.Reading.{NetReading}
 use Rattle.ice_blif.specs.Grammar.{was_named, with_named_port, port_says, without_rows, line_says, no_limits}
 use Rattle.ice_blif_write.specs.RoundTrip.{named_port}
 use Rattle.ice_blif_write.specs.Text.{Words, name_of, port_lines_by, port_lines}

@@ -7,10 +7,11 @@ use Rattle.ice_net.specs.declared.kind.CellKind.{CellKind}
 use Rattle.ice_net.specs.declared.port.Port.{Port}
 use Rattle.ice_net.specs.NetlistData.{NetlistData}
 use Rattle.ice_blif.specs.declared.fault.BlifFault.{BlifFault}
-use Rattle.ice_blif.specs.Cells.{◌>>=◌, finished, cover_cell}
+use Rattle.ice_blif.specs.Cells.{◌>>=◌}
 use Rattle.ice_blif.specs.Grammar.{line_says, model_says, no_limits, ended}
 use Rattle.ice_blif.specs.JoinedLines.{FilledLine}
-use Rattle.ice_blif.specs.State.{LastCell, NetReading, Nothing, Gate, Rows}
+use Rattle.ice_blif.specs.State.{LastCell, Nothing, Gate, Rows, finished, cover_cell}
+use Rattle.ice_blif.specs.Reading.{NetReading}
 use Rattle.ice_blif_write.specs.RoundTrip.{named_signal, named_port, NamedCell, named_cell, IsSameByNames}
 use Rattle.ice_blif_write.specs.Text.{Words}
 use Rattle.ice_blif_write.proofs.NamesRead.{Grows, Know}

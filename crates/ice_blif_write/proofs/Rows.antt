@@ -6,9 +6,8 @@ use Rattle.std.proofs.lemmas.Bool.{cases_lt}
 use Rattle.std.proofs.lemmas.Nat.Bits.{bit_at_or, bit_at-zero, bit_at-lt, bit_at_lowest, bit_at-suc, same_from_bits_below, bit_at_cat_low}
 use Rattle.std.proofs.Math.Nat.{div-add-mod, mod-lt}
 use Rattle.ice_net.specs.Meaning.{table_bit}
-use Rattle.ice_blif.specs.Cells.{with_cover_row}
 use Rattle.ice_blif.specs.Covers.{covers, bit, row_table, table_of}
-use Rattle.ice_blif.specs.State.{OpenCover}
+use Rattle.ice_blif.specs.State.{OpenCover, with_cover_row}
 use Rattle.ice_blif_write.specs.Text.{digit_of, levels_of}
 
 -- ---- which numbers a row covers

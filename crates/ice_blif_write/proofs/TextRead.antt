@@ -8,10 +8,10 @@ use Rattle.ice_net.specs.declared.cell.Cell.{Cell}
 use Rattle.ice_net.specs.declared.port.Port.{Port}
 use Rattle.ice_net.specs.Formed.{IsBelow, IsPortBelow, IsFormedCell}
 use Rattle.ice_net.specs.NetlistData.{NetlistData, empty_netlist}
-use Rattle.ice_blif.specs.Cells.{finished}
 use Rattle.ice_blif.specs.Grammar.{no_limits, lines_say}
 use Rattle.ice_blif.specs.JoinedLines.{FilledLine, last_number}
-use Rattle.ice_blif.specs.State.{NetReading}
+use Rattle.ice_blif.specs.State.{finished}
+use Rattle.ice_blif.specs.Reading.{NetReading}
 use Rattle.ice_blif_write.specs.RoundTrip.{IsName, IsDefinedCell, IsPlainCell, IsSmallCell, named_port, named_cell, WrittenIsRead}
 use Rattle.ice_blif_write.specs.Text.{Words, name_of, port_lines, cell_lines, netlist_lines, blif_text}
 use Rattle.ice_blif_write.proofs.CellRead.{MayBeNamed, all_named}

@@ -3,10 +3,12 @@ use Rattle.std.proofs.Common.{◌≡◌, ◌≢◌, ℕ, ◌==◌, ◌&&◌, Boo
 use Rattle.std.specs.List.{AllByRecursion, flat_map, list_all}
 use Rattle.std.proofs.lemmas.Grind.{flat_map-append}
 use Rattle.ice_base.proofs.Booleans.{and_false}
-use Rattle.ice_base.specs.Text.{words, lines, ends_word, is_blank, IsWord, IsLine, text_of_lines, numbered, next_number, uncommented}
+use Rattle.ice_base.specs.Text.{words, lines, ends_word, is_blank, numbered, next_number, uncommented}
+use Rattle.ice_base.specs.Lines.{IsWord, IsLine, text_of_lines}
 use Rattle.ice_base.proofs.TextLaws.{first_word, last_word}
 use Rattle.ice_base.proofs.TextLines.{all_append, word_line, lines_read}
-use Rattle.ice_blif.specs.JoinedLines.{before_backslash, in_front_of, continued, outside_comment, goes_on, goes_on_by, plain, plain_by, with_next, later_joined, joined, FilledLine, filled}
+use Rattle.ice_blif.specs.JoinedLines.{goes_on, goes_on_by, plain, plain_by, with_next, later_joined, joined, FilledLine, filled}
+use Rattle.ice_blif.specs.Continued.{before_backslash, in_front_of, continued, outside_comment}
 use Rattle.ice_blif.proofs.Backslashes.{no_front}
 use Rattle.ice_blif_write.specs.RoundTrip.{IsName}
 use Rattle.ice_blif_write.specs.Text.{Words, behind_space, ends_in, line_of}

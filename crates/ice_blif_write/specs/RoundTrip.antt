@@ -1,6 +1,7 @@
 -- Netlists that are read from the text that is written for them.
 use Rattle.std.specs.Prelude.{◌≡◌, ◌≢◌, ℕ, ◌<◌, ◌^◌, false, List, map, Option, Some, None, codes, All}
-use Rattle.ice_base.specs.Text.{IsWord, begins_with}
+use Rattle.ice_base.specs.Text.{begins_with}
+use Rattle.ice_base.specs.Lines.{IsWord}
 use Rattle.ice_base.specs.declared.number.SignalNo.{SignalNo}
 use Rattle.ice_net.specs.declared.cell.Cell.{Cell}
 use Rattle.ice_net.specs.declared.kind.CellKind.{CellKind}

@@ -1,7 +1,7 @@
 //! Writing the cells of a netlist.
 ghost use Rattle.std.specs.Prelude.{◌≡◌, ℕ, ◌<◌, ◌≤◌, ◌+◌, ◌^◌, ◌∷◌, [], ◌++◌, length, map, drop, All, OnOk, Some, slice_index_or};
 ghost use Rattle.std.specs.List.{flat_map};
-ghost use Rattle.ice_base.specs.Text.{text_of_lines};
+ghost use Rattle.ice_base.specs.Lines.{text_of_lines};
 ghost use Rattle.ice_net.specs.Formed.{IsBelow, IsFormedCell};
 ghost use Rattle.ice_net.specs.Meaning.{table_bit};
 ghost use Rattle.ice_blif_write.specs.RoundTrip.{IsSmallKind, IsSmallCell};
@@ -44,8 +44,8 @@ fn put_connections(
 ) -> Result<(), NoMemory>
     requires places { first + length signals.now ≤ length (port_names kind) }
     requires below { All (IsBelow (length netlist.now.names)) signals.now }
-    ensures { OnOk result (out.new.items
-        ≡ out.old.items ++ flat_map behind_space (connections netlist.now.names (drop first (port_names kind)) signals.now)) }
+    ensures { OnOk result (out.new.items ≡ out.old.items ++ flat_map behind_space
+        (connections netlist.now.names (drop first (port_names kind)) signals.now)) }
 {
     for (place, signal) in signals.iter().enumerate() {
         put_connection(out, netlist, port_name(kind, first + place), *signal)?;
@@ -64,8 +64,8 @@ fn put_gate(
     requires places { length ins.now + length outs.now ≤ length (port_names kind) }
     requires ins { All (IsBelow (length netlist.now.names)) ins.now }
     requires outs { All (IsBelow (length netlist.now.names)) outs.now }
-    ensures { OnOk result (out.new.items
-        ≡ out.old.items ++ text_of_lines (map line_of (gate_line netlist.now.names kind ins.now outs.now ∷ []))) }
+    ensures { OnOk result (out.new.items ≡ out.old.items
+        ++ text_of_lines (map line_of (gate_line netlist.now.names kind ins.now outs.now ∷ []))) }
 {
     out.extend_from_slice(b".gate ")?;
     put_kind(out, kind)?;
@@ -82,8 +82,8 @@ fn put_signals(
     signals: &[Option<SignalNo>],
 ) -> Result<(), NoMemory>
     requires { All (IsBelow (length netlist.now.names)) signals.now }
-    ensures { OnOk result (out.new.items
-        ≡ out.old.items ++ flat_map behind_space (flat_map (signal_words netlist.now.names) signals.now)) }
+    ensures { OnOk result (out.new.items ≡ out.old.items
+        ++ flat_map behind_space (flat_map (signal_words netlist.now.names) signals.now)) }
 {
     for signal in signals {
         if let Some(signal) = signal {
@@ -102,8 +102,8 @@ fn put_names(
 ) -> Result<(), NoMemory>
     requires ins { All (IsBelow (length netlist.now.names)) ins.now }
     requires outs { All (IsBelow (length netlist.now.names)) outs.now }
-    ensures { OnOk result (out.new.items
-        ≡ out.old.items ++ text_of_lines (map line_of (first_line netlist.now.names (CellKind.Cover 0 0) ins.now outs.now ∷ []))) }
+    ensures { OnOk result (out.new.items ≡ out.old.items ++ text_of_lines
+        (map line_of (first_line netlist.now.names (CellKind.Cover 0 0) ins.now outs.now ∷ []))) }
 {
     out.extend_from_slice(b".names")?;
     put_signals(out, netlist, ins)?;
@@ -115,8 +115,8 @@ fn put_names(
 // Writes a parameter with so many digits.
 fn put_param(out: &mut Vec<u8>, name: &[u8], width: u8, number: u16) -> Result<(), NoMemory>
     requires { width ≤ 16 }
-    ensures { OnOk result (out.new.items
-        ≡ out.old.items ++ text_of_lines (map line_of (param_line name.now (digits_of width number) ∷ []))) }
+    ensures { OnOk result (out.new.items ≡ out.old.items
+        ++ text_of_lines (map line_of (param_line name.now (digits_of width number) ∷ []))) }
 {
     out.extend_from_slice(b".param")?;
     put_word(out, name)?;
@@ -128,7 +128,8 @@ fn put_param(out: &mut Vec<u8>, name: &[u8], width: u8, number: u16) -> Result<(
 
 // Writes the row of the levels with a number.
 fn put_row(out: &mut Vec<u8>, width: u8, number: u16) -> Result<(), NoMemory>
-    ensures { OnOk result (out.new.items ≡ out.old.items ++ text_of_lines (map line_of (row_line width number ∷ []))) }
+    ensures { OnOk result (out.new.items
+        ≡ out.old.items ++ text_of_lines (map line_of (row_line width number ∷ []))) }
 {
     if width == 0 {
         out.push(b'1')?;
@@ -193,7 +194,8 @@ fn put_rows(out: &mut Vec<u8>, table: u16, width: u8) -> Result<(), NoMemory>
 fn put_below(out: &mut Vec<u8>, kind: CellKind) -> Result<(), NoMemory>
     requires { IsFormedBelow kind }
     ensures small { OnOk result (IsSmallKind kind) }
-    ensures written { OnOk result (out.new.items ≡ out.old.items ++ text_of_lines (map line_of (lines_below kind))) }
+    ensures written { OnOk result
+        (out.new.items ≡ out.old.items ++ text_of_lines (map line_of (lines_below kind))) }
 {
     match kind {
         CellKind::Lut { table } => put_param(out, b"LUT_INIT", 16, table),
@@ -209,8 +211,8 @@ fn put_below(out: &mut Vec<u8>, kind: CellKind) -> Result<(), NoMemory>
 // Writes the first line of a cell.
 fn put_first(out: &mut Vec<u8>, netlist: &Netlist, cell: &Cell) -> Result<(), NoMemory>
     requires { IsFormedCell (length netlist.now.names) cell.now }
-    ensures { OnOk result (out.new.items
-        ≡ out.old.items ++ text_of_lines (map line_of (first_line netlist.now.names cell.now.kind cell.now.ins cell.now.outs ∷ []))) }
+    ensures { OnOk result (out.new.items ≡ out.old.items ++ text_of_lines (map line_of
+        (first_line netlist.now.names cell.now.kind cell.now.ins cell.now.outs ∷ []))) }
 {
     let ins = cell.ins.as_slice();
     let outs = cell.outs.as_slice();
@@ -242,8 +244,8 @@ pub(crate) fn put_cells(
 ) -> Result<(), NoMemory>
     requires { All (IsFormedCell (length netlist.now.names)) cells.now }
     ensures small { OnOk result (All IsSmallCell cells.now) }
-    ensures written { OnOk result (out.new.items
-        ≡ out.old.items ++ text_of_lines (map line_of (flat_map (cell_lines netlist.now.names) cells.now))) }
+    ensures written { OnOk result (out.new.items ≡ out.old.items
+        ++ text_of_lines (map line_of (flat_map (cell_lines netlist.now.names) cells.now))) }
 {
     for cell in cells {
         put_cell(out, netlist, cell)?;

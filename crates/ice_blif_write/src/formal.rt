@@ -46,7 +46,8 @@ fn reset_name(reset: Reset, place: usize) -> &'static [u8]
 // The enable of a flip-flop, and what stands behind it.
 fn enable_name(enable: bool, reset: Reset, place: usize) -> &'static [u8]
     requires { place < length ((enable_names enable ++ reset_names reset) ++ codes "Q" ∷ []) }
-    ensures { result.now ≡ slice_index_or ((enable_names enable ++ reset_names reset) ++ codes "Q" ∷ []) place [] }
+    ensures { result.now
+        ≡ slice_index_or ((enable_names enable ++ reset_names reset) ++ codes "Q" ∷ []) place [] }
 {
     if !enable {
         return reset_name(reset, place);

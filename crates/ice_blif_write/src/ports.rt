@@ -1,7 +1,7 @@
 //! Writing the ports of a netlist.
 ghost use Rattle.std.specs.Prelude.{◌≡◌, ◌<◌, ◌∷◌, [], ◌++◌, length, map, All, OnOk};
 ghost use Rattle.std.specs.List.{flat_map};
-ghost use Rattle.ice_base.specs.Text.{text_of_lines};
+ghost use Rattle.ice_base.specs.Lines.{text_of_lines};
 ghost use Rattle.ice_net.specs.Formed.{IsPortBelow};
 ghost use Rattle.ice_blif_write.specs.Text.{line_of, name_of, port_lines_by, port_lines};
 
@@ -23,7 +23,8 @@ fn put_directive(out: &mut Vec<u8>, directive: &[u8], name: &[u8]) -> Result<(),
 
 // Writes a line for each way of a port.
 fn put_ways(out: &mut Vec<u8>, name: &[u8], way: Way) -> Result<(), NoMemory>
-    ensures { OnOk result (out.new.items ≡ out.old.items ++ text_of_lines (map line_of (port_lines_by name.now way))) }
+    ensures { OnOk result (out.new.items
+        ≡ out.old.items ++ text_of_lines (map line_of (port_lines_by name.now way))) }
 {
     if way != Way::Output {
         put_directive(out, b".inputs", name)?;
@@ -41,8 +42,8 @@ pub(crate) fn put_ports(
     ports: &[Port],
 ) -> Result<(), NoMemory>
     requires { All (IsPortBelow (length netlist.now.names)) ports.now }
-    ensures { OnOk result (out.new.items
-        ≡ out.old.items ++ text_of_lines (map line_of (flat_map (port_lines netlist.now.names) ports.now))) }
+    ensures { OnOk result (out.new.items ≡ out.old.items
+        ++ text_of_lines (map line_of (flat_map (port_lines netlist.now.names) ports.now))) }
 {
     for port in ports {
         put_ways(out, netlist.name(port.signal), port.way)?;

@@ -53,7 +53,8 @@ fn reset_word(reset: Reset) -> &'static [u8]
 
 // Writes the word of a flip-flop.
 fn put_flop(out: &mut Vec<u8>, falling: bool, enable: bool, reset: Reset) -> Result<(), NoMemory>
-    ensures { OnOk result (out.new.items ≡ out.old.items ++ kind_word (CellKind.Flop falling enable reset)) }
+    ensures { OnOk result
+        (out.new.items ≡ out.old.items ++ kind_word (CellKind.Flop falling enable reset)) }
 {
     out.extend_from_slice(b"SB_DFF")?;
     if falling {

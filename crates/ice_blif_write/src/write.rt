@@ -30,7 +30,8 @@ fn put_text(out: &mut Vec<u8>, netlist: &Netlist) -> Result<(), NoMemory>
 /// Want of memory alone.
 pub fn write_blif(netlist: &Netlist, out: &mut Vec<u8>) -> Result<(), NoMemory>
     ensures written { OnOk result (out.new.items ≡ out.old.items ++ blif_text netlist.now) }
-    ensures read_back { OnOk result (IsWritable netlist.now → HasSameNetlist (blif_text netlist.now) netlist.now) }
+    ensures read_back { OnOk result
+        (IsWritable netlist.now → HasSameNetlist (blif_text netlist.now) netlist.now) }
     ensures refused { OnErr result (out.new.items ≡ out.old.items) }
 {
     netlist.ports();

@@ -42,8 +42,11 @@ fn feed_runs(
     marks: &[Follow],
     heads: &[(u32, CarryIn)],
 ) -> Result<Vec<Option<u32>>, NoMemory>
-    ensures cells { OnOk result (cells.new.items ≡ cells.old.items ++ flat_map (feed_cells marks.now) heads.now) }
-    ensures fed { IfOk result (λ fed. fed.items ≡ numbers_by (fed_from marks.now (length cells.old.items) heads.now) (length (cells.old.items ++ flat_map (feed_cells marks.now) heads.now))) }
+    ensures cells { OnOk result
+        (cells.new.items ≡ cells.old.items ++ flat_map (feed_cells marks.now) heads.now) }
+    ensures fed { IfOk result (λ fed.
+        fed.items ≡ numbers_by (fed_from marks.now (length cells.old.items) heads.now)
+        (length (cells.old.items ++ flat_map (feed_cells marks.now) heads.now))) }
 {
     let pairs = push_feeds(alloc, cells, marks, heads)?;
     let fed = numbers_by_cell(alloc, pairs.as_slice(), cells.len())?;
@@ -57,9 +60,13 @@ fn runs_from(
     marks: &[Follow],
     heads: &[(u32, CarryIn)],
 ) -> Result<Carried, NoMemory>
-    ensures runs { IfOk result (λ made. made.runs.items ≡ runs_from marks.now (length cells.now) heads.now) }
-    ensures cells { IfOk result (λ made. made.cells.items ≡ cells.now ++ flat_map (feed_cells marks.now) heads.now) }
-    ensures fed { IfOk result (λ made. made.fed.items ≡ numbers_by (fed_from marks.now (length cells.now) heads.now) (length (cells.now ++ flat_map (feed_cells marks.now) heads.now))) }
+    ensures runs { IfOk result (λ made.
+        made.runs.items ≡ runs_from marks.now (length cells.now) heads.now) }
+    ensures cells { IfOk result (λ made.
+        made.cells.items ≡ cells.now ++ flat_map (feed_cells marks.now) heads.now) }
+    ensures fed { IfOk result (λ made.
+        made.fed.items ≡ numbers_by (fed_from marks.now (length cells.now) heads.now)
+        (length (cells.now ++ flat_map (feed_cells marks.now) heads.now))) }
 {
     let mut all = Vec::from_slice(alloc, cells)?;
     let fed = feed_runs(alloc, &mut all, marks, heads)?;
@@ -86,7 +93,8 @@ fn carry(alloc: Global, design: &Design) -> Result<Carried, NoMemory>
 // The flip-flops that leave the cells of runs.
 fn move_flops(alloc: Global, cells: &[LogicCell], runs: &[Run]) -> Result<Moved, NoMemory>
     ensures movers { IfOk result (λ moved. moved.movers.items ≡ moves cells.now runs.now) }
-    ensures numbers { IfOk result (λ moved. moved.numbers.items ≡ numbers_by (numbered (length cells.now) (moves cells.now runs.now)) (length cells.now)) }
+    ensures numbers { IfOk result (λ moved. moved.numbers.items
+        ≡ numbers_by (numbered (length cells.now) (moves cells.now runs.now)) (length cells.now)) }
 {
     let movers = find_moves(alloc, cells, runs)?;
     let pairs = number_moves(alloc, cells.len(), movers.as_slice())?;
@@ -101,8 +109,10 @@ fn rename_readers(
     fed: &[Option<u32>],
     design: &Design,
 ) -> Result<Readers, NoMemory>
-    ensures pads { IfOk result (λ readers. readers.pads.items ≡ map (renamed_pad moved.now fed.now) design.now.pads) }
-    ensures globals { IfOk result (λ readers. readers.globals.items ≡ map (renamed_source moved.now fed.now) design.now.globals) }
+    ensures pads { IfOk result (λ readers.
+        readers.pads.items ≡ map (renamed_pad moved.now fed.now) design.now.pads) }
+    ensures globals { IfOk result (λ readers.
+        readers.globals.items ≡ map (renamed_source moved.now fed.now) design.now.globals) }
 {
     let pads = rename_pads(alloc, moved, fed, design.pads())?;
     let globals = rename_globals(alloc, moved, fed, design.globals())?;
@@ -111,7 +121,8 @@ fn rename_readers(
 
 // The design whose runs are made.
 fn rename(alloc: Global, design: &Design, made: Carried, moved: &Moved) -> Result<Design, NoMemory>
-    ensures { IfOk result (λ after. after ≡ with_runs design.now made.runs.items made.cells.items made.fed.items moved.now.movers.items moved.now.numbers.items) }
+    ensures { IfOk result (λ after. after ≡ with_runs design.now made.runs.items made.cells.items
+        made.fed.items moved.now.movers.items moved.now.numbers.items) }
 {
     let numbers = moved.numbers.as_slice();
     let readers = rename_readers(alloc, numbers, made.fed.as_slice(), design)?;

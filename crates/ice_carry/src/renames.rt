@@ -123,7 +123,8 @@ fn push_become(
     fed: &[Option<u32>],
     cells: &[LogicCell],
 ) -> Result<(), NoMemory>
-    ensures { OnOk result (after.new.items ≡ after.old.items ++ become_from moved.now fed.now 0 cells.now) }
+    ensures { OnOk result
+        (after.new.items ≡ after.old.items ++ become_from moved.now fed.now 0 cells.now) }
 {
     for (c, cell) in cells.iter().enumerate() {
         after.push(become_of(moved, fed, c, cell))?;
@@ -139,7 +140,8 @@ fn push_moved(
     cells: &[LogicCell],
     movers: &[u32],
 ) -> Result<(), NoMemory>
-    ensures { OnOk result (after.new.items ≡ after.old.items ++ map (moved_cell moved.now fed.now cells.now) movers.now) }
+    ensures { OnOk result (after.new.items
+        ≡ after.old.items ++ map (moved_cell moved.now fed.now cells.now) movers.now) }
 {
     for c in movers {
         after.push(moved_cell(moved, fed, cells, *c))?;
@@ -155,7 +157,8 @@ pub(crate) fn cells_after(
     cells: &[LogicCell],
     movers: &[u32],
 ) -> Result<Vec<LogicCell>, NoMemory>
-    ensures { IfOk result (λ after. after.items ≡ cells_after moved.now fed.now cells.now movers.now) }
+    ensures { IfOk result (λ after.
+        after.items ≡ cells_after moved.now fed.now cells.now movers.now) }
 {
     let mut after = Vec::new(alloc);
     push_become(&mut after, moved, fed, cells)?;
@@ -193,7 +196,8 @@ pub(crate) fn rename_globals(
     fed: &[Option<u32>],
     globals: &[Option<Root>],
 ) -> Result<Vec<Option<Root>>, NoMemory>
-    ensures { IfOk result (λ after. after.items ≡ map (renamed_source moved.now fed.now) globals.now) }
+    ensures { IfOk result (λ after.
+        after.items ≡ map (renamed_source moved.now fed.now) globals.now) }
 {
     let mut after = Vec::new(alloc);
     for root in globals {

@@ -21,7 +21,8 @@ pub fn next(marks: &[Follow], c: usize) -> Option<usize>
 /// Appends the carries of the chain from this one on; gives the last.
 #[tactic(auto, using(crate::proofs::Chaining::chain_on, crate::proofs::Chaining::chain_stops, crate::proofs::Chaining::end_on, crate::proofs::Chaining::end_stops))]
 pub fn push_chain(cells: &mut Vec<u32>, marks: &[Follow], head: usize) -> Result<usize, NoMemory>
-    ensures cells { OnOk result (cells.new.items ≡ cells.old.items ++ chain marks.now (length marks.now) head) }
+    ensures cells { OnOk result
+        (cells.new.items ≡ cells.old.items ++ chain marks.now (length marks.now) head) }
     ensures last { IfOk result (λ last. last ≡ end marks.now (length marks.now) head) }
 {
     let mut at = head;

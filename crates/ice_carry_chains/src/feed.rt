@@ -47,9 +47,10 @@ fn push_run_feeds(
     c: u32,
     into: CarryIn,
 ) -> Result<Option<(u32, u32)>, NoMemory>
-    ensures cells { OnOk result (cells.new.items ≡ cells.old.items ++ feed_cells marks.now (c, into)) }
-    ensures fed { IfOk result (λ fed. option_to_list fed
-        ≡ fed_if (passes_out marks.now (c, into)) (end marks.now (length marks.now) c, length cells.old.items + one_if (is_read into))) }
+    ensures cells { OnOk result
+        (cells.new.items ≡ cells.old.items ++ feed_cells marks.now (c, into)) }
+    ensures fed { IfOk result (λ fed. option_to_list fed ≡ fed_if (passes_out marks.now (c, into))
+        (end marks.now (length marks.now) c, length cells.old.items + one_if (is_read into))) }
 {
     push_feed_in(cells, into)?;
     let last = end(marks, c as usize);
@@ -78,8 +79,10 @@ pub fn push_feeds(
     marks: &[Follow],
     heads: &[(u32, CarryIn)],
 ) -> Result<Vec<(u32, u32)>, NoMemory>
-    ensures cells { OnOk result (cells.new.items ≡ cells.old.items ++ flat_map (feed_cells marks.now) heads.now) }
-    ensures fed { IfOk result (λ fed. fed.items ≡ fed_from marks.now (length cells.old.items) heads.now) }
+    ensures cells { OnOk result
+        (cells.new.items ≡ cells.old.items ++ flat_map (feed_cells marks.now) heads.now) }
+    ensures fed { IfOk result (λ fed.
+        fed.items ≡ fed_from marks.now (length cells.old.items) heads.now) }
 {
     let mut all = Vec::new(alloc);
     for (c, into) in heads {

@@ -7,7 +7,7 @@ use Rattle.ice_net.specs.NetlistData.{NetlistData}
 use Rattle.ice_cells.specs.declared.cell.LogicCell.{LogicCell}
 use Rattle.ice_cells.specs.Homes.{openers}
 use Rattle.ice_cells.specs.Origins.{origins}
-use Rattle.ice_cells.specs.Packed.{Plan, plan_of, packed, cell_of, constant_cell, constant_if, needs_zero, needs_one, one_if}
+use Rattle.ice_cells.specs.Packed.{PackPlan, plan_of, packed, cell_of, constant_cell, constant_if, needs_zero, needs_one, one_if}
 use Rattle.ice_cells.specs.Uses.{bare_outputs}
 use Rattle.ice_carry_form_laws.specs.Constants.{ConstantsAreMade}
 
@@ -26,7 +26,7 @@ both : (a b c d : ℕ) → a ≡ b → c ≡ d → (a + c) + 0 ≡ b + d
 both a b c d e f = omega arith
 
 module _ (n : NetlistData) where
-  abbrev p : Plan
+  abbrev p : PackPlan
   p = plan_of n
 
   abbrev opened : List LogicCell

@@ -18,7 +18,7 @@ use Rattle.ice_cells.specs.Chains.{Head}
 use Rattle.ice_cells.specs.Origins.{input_origin, origins}
 use Rattle.ice_cells.specs.Uses.{dropped, bare_outputs}
 use Rattle.ice_cells.specs.Homes.{Facts, part, is_kept, anchor, carriers_of, counts, first_by, first_member, opens, openers, openers_before, home, homes}
-use Rattle.ice_cells.specs.Packed.{Plan, plan_of, packed, carry_input, carry_by, carries_from, carry_for, cell_of, constant_if, needs_zero, needs_one}
+use Rattle.ice_cells.specs.Packed.{PackPlan, plan_of, packed, carry_input, carry_by, carries_from, carry_for, cell_of, constant_if, needs_zero, needs_one}
 use Rattle.ice_cells.proofs.RangeFilters.{passing_at}
 use Rattle.ice_cells.proofs.TableLaws.{get_or-table}
 use Rattle.ice_pack_share.proofs.HomeLaws.{goes, first_anchor, home_opened}
@@ -28,14 +28,14 @@ use Rattle.ice_carry_form_laws.proofs.PackedCells.{CellAt, Opened, Constant, pac
 
 -- ---- the list of carries
 -- one that a cell of the netlist gives
-pub record IsGiven (p : Plan) (hs : List ℕ) (j : ℕ) (cells : List Cell) (x : Head) : Type 0 where
+pub record IsGiven (p : PackPlan) (hs : List ℕ) (j : ℕ) (cells : List Cell) (x : Head) : Type 0 where
   pub place : ℕ
   pub carry : IsCarry cells place
   pub number : ℕ
   pub is : number ≡ j + place
   pub gives : x ≡ (slice_index_or hs number 0, carry_input p.roots (input_origin p.origins (slice_index_or carry.cell.ins 2 None)))
 
-one_given : (p : Plan) (c : ℕ) (k : CellKind) (ins outs : List (Option SignalNo)) (i : ℕ) (x : Head) → At (carry_by p c k ins outs) i x
+one_given : (p : PackPlan) (c : ℕ) (k : CellKind) (ins outs : List (Option SignalNo)) (i : ℕ) (x : Head) → At (carry_by p c k ins outs) i x
     → (k ≡ kind.Carry) × (dropped outs ≡ false) × (x ≡ (c, carry_input p.roots (input_origin p.origins (slice_index_or ins 2 None))))
 one_given p c (kind.Lut t) ins outs i x at = cc at
 one_given p c (kind.Cover t width) ins outs i x at = cc at
@@ -52,7 +52,7 @@ one_given p c (kind.Flop falling enable reset) ins outs i x at = cc at
 one_given p c (kind.PadCell pin_type pullup) ins outs i x at = cc at
 one_given p c kind.Global ins outs i x at = cc at
 
-pub given_at : (p : Plan) (hs : List ℕ) (j : ℕ) (cells : List Cell) (i : ℕ) (x : Head) → At (carries_from p hs j cells) i x → IsGiven p hs j cells x
+pub given_at : (p : PackPlan) (hs : List ℕ) (j : ℕ) (cells : List Cell) (i : ℕ) (x : Head) → At (carries_from p hs j cells) i x → IsGiven p hs j cells x
 given_at p hs j [] i x at = cc at
 given_at p hs j (cell ∷ cells) i x at = by (At_parts (carry_by p (slice_index_or hs j 0) cell.kind cell.ins cell.outs) (carries_from p hs (j + 1) cells) i x at) (λ k there. given_at p hs (j + 1) cells k x there)
   where
@@ -67,17 +67,17 @@ given_at p hs j (cell ∷ cells) i x at = by (At_parts (carry_by p (slice_index_
         record { place = suc rest.place; carry = record { cell = rest.carry.cell; at = rest.carry.at; is = rest.carry.is; stays = rest.carry.stays }; number = rest.number; is = (let is = rest.is in omega arith); gives = rest.gives }
 
 -- each carry gives one
-record IsListed (p : Plan) (hs : List ℕ) (j : ℕ) (cells : List Cell) (place : ℕ) : Type 0 where
+record IsListed (p : PackPlan) (hs : List ℕ) (j : ℕ) (cells : List Cell) (place : ℕ) : Type 0 where
   pub into : CarryIn
   pub row : ℕ
   pub at : At (carries_from p hs j cells) row (slice_index_or hs (j + place) 0, into)
 
-gives_one : (p : Plan) (c : ℕ) (k : CellKind) (ins outs : List (Option SignalNo)) → k ≡ kind.Carry → dropped outs ≡ false
+gives_one : (p : PackPlan) (c : ℕ) (k : CellKind) (ins outs : List (Option SignalNo)) → k ≡ kind.Carry → dropped outs ≡ false
     → carry_by p c k ins outs ≡ (c, carry_input p.roots (input_origin p.origins (slice_index_or ins 2 None))) ∷ []
 gives_one p c k ins outs e stays =
     ap (λ x. carry_by p c x ins outs) e ∙ ap (λ b. cond b [] ((c, carry_input p.roots (input_origin p.origins (slice_index_or ins 2 None))) ∷ [])) stays
 
-listed_at : (p : Plan) (hs : List ℕ) (j : ℕ) (cells : List Cell) (place : ℕ) (cell : Cell) → At cells place cell → cell.kind ≡ kind.Carry → dropped cell.outs ≡ false → IsListed p hs j cells place
+listed_at : (p : PackPlan) (hs : List ℕ) (j : ℕ) (cells : List Cell) (place : ℕ) (cell : Cell) → At cells place cell → cell.kind ≡ kind.Carry → dropped cell.outs ≡ false → IsListed p hs j cells place
 listed_at p hs j [] place cell at is stays = cc at
 listed_at p hs j (first ∷ cells) zero cell at is stays =
     let same : first ≡ cell = same_Some first cell at in
@@ -100,7 +100,7 @@ listed_at p hs j (first ∷ cells) (suc place) cell at is stays =
     }
 
 module _ (n : NetlistData) where
-  abbrev p : Plan
+  abbrev p : PackPlan
   p = plan_of n
 
   abbrev f : Facts

@@ -9,10 +9,10 @@ use Rattle.ice_net.specs.NetlistData.{NetlistData}
 use Rattle.ice_cells.specs.declared.cell.LogicCell.{LogicCell}
 use Rattle.ice_cells.specs.Uses.{bare_outputs}
 use Rattle.ice_cells.specs.Homes.{openers}
-use Rattle.ice_cells.specs.Packed.{Plan, cell_of, cells_by, constant_cell, constant_if, needs_zero, needs_one, plan_of, packed}
+use Rattle.ice_cells.specs.Packed.{PackPlan, cell_of, cells_by, constant_cell, constant_if, needs_zero, needs_one, plan_of, packed}
 
 -- the cell that is opened at a cell of the netlist, or that of a constant
-pub data CellAt (p : Plan) (cells : List Cell) (opened : List ℕ) (c : ℕ) (x : LogicCell) : Type 0 where
+pub data CellAt (p : PackPlan) (cells : List Cell) (opened : List ℕ) (c : ℕ) (x : LogicCell) : Type 0 where
   Opened : (j : ℕ) → At opened c j → cell_of p cells j ≡ x → CellAt p cells opened c x
   Constant : (level : Bool) → constant_cell level ≡ x → CellAt p cells opened c x
 
@@ -21,7 +21,7 @@ constant_at false level i x at = cc at
 constant_at true level zero x at = same_Some (constant_cell level) x at
 constant_at true level (suc i) x at = cc at
 
-pub cell_at : (p : Plan) (cells : List Cell) (bare : List Port) (opened : List ℕ) (c : ℕ) (x : LogicCell) → At (cells_by p cells bare opened) c x → CellAt p cells opened c x
+pub cell_at : (p : PackPlan) (cells : List Cell) (bare : List Port) (opened : List ℕ) (c : ℕ) (x : LogicCell) → At (cells_by p cells bare opened) c x → CellAt p cells opened c x
 cell_at p cells bare opened c x at = elim (At_parts (map (cell_of p cells) opened ++ constant_if (needs_zero p.origins cells) false) (constant_if (needs_one p.origins cells bare) true) c x at) [
   | inr last ↦ Constant true (constant_at (needs_one p.origins cells bare) true last.0 x last.2)
   | inl front ↦ elim (At_parts (map (cell_of p cells) opened) (constant_if (needs_zero p.origins cells) false) c x front) [

@@ -17,7 +17,8 @@ use Rattle.ice_net.specs.declared.port.Way.{Way}
 use Rattle.ice_net.specs.declared.port.Way.TheVariants.{Input, Output, Both}
 use Rattle.ice_net.specs.NetlistData.{NetlistData}
 use Rattle.ice_net.specs.Drivers.{is_signal, place_of, pin_by, pin_of, buffer_at}
-use Rattle.ice_net.specs.Drives.{is_type, input_type, output_type, enabled_type}
+use Rattle.ice_net.specs.Drives.{output_type, enabled_type}
+use Rattle.ice_net.specs.Uses.{is_type, input_type}
 use Rattle.ice_check.specs.Faults.{first_number, cell_is, is_type_out}
 use Rattle.ice_check.specs.Sound.{IsSound}
 use Rattle.ice_cells.specs.declared.design.Design.{Design}
@@ -27,7 +28,7 @@ use Rattle.ice_cells.specs.declared.root.Root.TheVariants.{PadIn}
 use Rattle.ice_cells.specs.Formed.{IsPad}
 use Rattle.ice_cells.specs.Readings.{carry_root, cell_roots, pad_roots, is_read}
 use Rattle.ice_cells.specs.Same.{same_source}
-use Rattle.ice_cells.specs.Packed.{Plan, bare_pad, buffered_pad, pad_by, pads_from, plan_of, unread_by, read_pad, packed}
+use Rattle.ice_cells.specs.Packed.{PackPlan, bare_pad, buffered_pad, pad_by, pads_from, plan_of, unread_by, read_pad, packed}
 
 -- ---- buffers
 place_back : (s : ℕ) (list : List (Option SignalNo)) (i : ℕ) → place_of s list ≡ Some i → (x : Option SignalNo) × At list i x × (is_signal s x ≡ true)
@@ -67,22 +68,22 @@ buffer_is cells s i e =
 
 -- ---- pads by place
 -- the pad of a port without an SB_IO, or that of one with it
-pub data PadAt (p : Plan) (cells : List Cell) (ports : List Port) (place k : ℕ) (pad : DesignPad) : Type 0 where
+pub data PadAt (p : PackPlan) (cells : List Cell) (ports : List Port) (place k : ℕ) (pad : DesignPad) : Type 0 where
   Bare : (port : Port) → At ports place port → buffer_at cells port.signal.0 ≡ None → bare_pad p k port ≡ pad → PadAt p cells ports place k pad
   Buffered : (port : Port) (i : ℕ) (b : IsBuffer cells i) → At ports place port → buffered_pad p k port b.cell.ins (PadCell b.pin_type b.pullup) ≡ pad → PadAt p cells ports place k pad
 
-first_pad : (p : Plan) (cells : List Cell) (ports : List Port) (k : ℕ) (port : Port) (o : Option ℕ) → buffer_at cells port.signal.0 ≡ o → PadAt p cells (port ∷ ports) 0 k (pad_by p cells k port o)
+first_pad : (p : PackPlan) (cells : List Cell) (ports : List Port) (k : ℕ) (port : Port) (o : Option ℕ) → buffer_at cells port.signal.0 ≡ o → PadAt p cells (port ∷ ports) 0 k (pad_by p cells k port o)
 first_pad p cells ports k port None e = Bare port refl e refl
 first_pad p cells ports k port (Some i) e =
     let b = buffer_is cells port.signal.0 i e in
     Buffered port i b refl
     (ap (buffered_pad p k port b.cell.ins) (sym b.is) ∙ sym (ap (λ o. option_map_or (λ (cell : Cell). buffered_pad p k port cell.ins cell.kind) o (bare_pad p k port)) b.at))
 
-pad_later : (p : Plan) (cells : List Cell) (first : Port) (ports : List Port) (place k : ℕ) (pad : DesignPad) → PadAt p cells ports place k pad → PadAt p cells (first ∷ ports) (suc place) k pad
+pad_later : (p : PackPlan) (cells : List Cell) (first : Port) (ports : List Port) (place k : ℕ) (pad : DesignPad) → PadAt p cells ports place k pad → PadAt p cells (first ∷ ports) (suc place) k pad
 pad_later p cells first ports place k pad (Bare port at none e) = Bare port at none e
 pad_later p cells first ports place k pad (Buffered port i b at e) = Buffered port i b at e
 
-pub pad_at : (p : Plan) (cells : List Cell) (j : ℕ) (ports : List Port) (place : ℕ) (pad : DesignPad) → At (pads_from p cells j ports) place pad → PadAt p cells ports place (j + place) pad
+pub pad_at : (p : PackPlan) (cells : List Cell) (j : ℕ) (ports : List Port) (place : ℕ) (pad : DesignPad) → At (pads_from p cells j ports) place pad → PadAt p cells ports place (j + place) pad
 pad_at p cells j [] place pad at = cc at
 pad_at p cells j (port ∷ ports) zero pad at =
     subst (λ (k : ℕ). PadAt p cells (port ∷ ports) 0 k pad) (let z : j ≡ j + 0 = omega arith in z)
@@ -91,7 +92,7 @@ pad_at p cells j (port ∷ ports) (suc place) pad at =
     subst (λ (k : ℕ). PadAt p cells (port ∷ ports) (suc place) k pad) (let z : j + 1 + place ≡ j + suc place = omega arith in z)
     (pad_later p cells port ports place (j + 1 + place) pad (pad_at p cells (j + 1) ports place pad at))
 
-pub pads_long : (p : Plan) (cells : List Cell) (j : ℕ) (ports : List Port) → length (pads_from p cells j ports) ≡ length ports
+pub pads_long : (p : PackPlan) (cells : List Cell) (j : ℕ) (ports : List Port) → length (pads_from p cells j ports) ≡ length ports
 pads_long p cells j [] = refl
 pads_long p cells j (port ∷ ports) = ap suc (pads_long p cells (j + 1) ports)
 
@@ -101,7 +102,7 @@ roots_stay u [] = refl
 roots_stay u (pad ∷ pads) = ap (λ xs. pad.drive ∷ pad.enable ∷ xs) (roots_stay u pads)
 
 module _ (n : NetlistData) where
-  abbrev p : Plan
+  abbrev p : PackPlan
   p = plan_of n
 
   abbrev u : Design

@@ -17,7 +17,7 @@ use Rattle.ice_net.specs.declared.port.Way.{Way}
 use Rattle.ice_net.specs.declared.port.Way.TheVariants.{Input, Output, Both}
 use Rattle.ice_net.specs.NetlistData.{NetlistData}
 use Rattle.ice_net.specs.Drivers.{is_there, buffer_at}
-use Rattle.ice_net.specs.Drives.{pad_uses}
+use Rattle.ice_net.specs.Uses.{pad_uses}
 use Rattle.ice_cells.specs.declared.cell.LogicCell.{LogicCell}
 use Rattle.ice_cells.specs.declared.design.Design.{Design}
 use Rattle.ice_cells.specs.declared.design.DesignPad.{DesignPad}
@@ -28,7 +28,7 @@ use Rattle.ice_cells.specs.Origins.{input_origin, origins}
 use Rattle.ice_cells.specs.Readings.{carry_root, control_roots, cell_roots, pad_roots, roots_read}
 use Rattle.ice_cells.specs.Uses.{is_bare_way, is_bare_output, bare_outputs}
 use Rattle.ice_cells.specs.Homes.{Facts, part, anchor, homes, openers}
-use Rattle.ice_cells.specs.Packed.{Plan, plan_of, packed, sink, enable_sink, plain_sink, enable_input, set_input, flop_by, flop_of, flop_for, ins_at, four, no_inputs, data_input, inputs_for, carry_for, with_carry, cell_by, constant_cell, has_level, reads_zero, reads_one, needs_zero, needs_one, bare_drive, bare_pad, buffered_pad, global_by}
+use Rattle.ice_cells.specs.Packed.{PackPlan, plan_of, packed, sink, enable_sink, plain_sink, enable_input, set_input, flop_by, flop_of, flop_for, ins_at, four, no_inputs, data_input, inputs_for, carry_for, with_carry, cell_by, constant_cell, has_level, reads_zero, reads_one, needs_zero, needs_one, bare_drive, bare_pad, buffered_pad, global_by}
 use Rattle.ice_carry_chains.proofs.RunLists.{flat_back}
 use Rattle.ice_carry_form_laws.proofs.Parts.{IsCarry, is_carry, lut_carry, carrier_lut}
 use Rattle.ice_carry_form_laws.proofs.PackedCells.{CellAt, Opened, Constant, packed_at}
@@ -38,7 +38,7 @@ use Rattle.ice_carry_form_laws.proofs.PackedRoots.{IsThere, MayRead, none_read, 
 use Rattle.ice_carry_form_laws.proofs.PadOrigins.{input_is}
 
 module _ (n : NetlistData) where
-  abbrev p : Plan
+  abbrev p : PackPlan
   p = plan_of n
 
   abbrev f : Facts

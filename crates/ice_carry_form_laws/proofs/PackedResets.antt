@@ -17,15 +17,15 @@ use Rattle.ice_net.specs.NetlistData.{NetlistData}
 use Rattle.ice_cells.specs.declared.cell.Control.{Control}
 use Rattle.ice_cells.specs.declared.cell.LogicCell.{LogicCell}
 use Rattle.ice_cells.specs.Homes.{openers, anchor, part}
-use Rattle.ice_cells.specs.Packed.{Plan, plan_of, packed, sink, plain_sink, enable_sink, enable_input, set_input, flop_by, flop_of, flop_for}
+use Rattle.ice_cells.specs.Packed.{PackPlan, plan_of, packed, sink, plain_sink, enable_sink, enable_input, set_input, flop_by, flop_of, flop_for}
 use Rattle.ice_carry_form_laws.proofs.PackedCells.{CellAt, Opened, Constant, packed_at}
 
 -- the input at the set or reset is missing
-set_missing : (p : Plan) (falling enable : Bool) (ins : List (Option SignalNo)) → length ins ≡ ins_count (Flop falling enable Nothing) → sink p (set_input enable ins) ≡ None
+set_missing : (p : PackPlan) (falling enable : Bool) (ins : List (Option SignalNo)) → length ins ≡ ins_count (Flop falling enable Nothing) → sink p (set_input enable ins) ≡ None
 set_missing p falling true ins long = ap (sink p) (get_or_past ins 3 None (omega (arith, long)))
 set_missing p falling false ins long = ap (sink p) (get_or_past ins 2 None (omega (arith, long)))
 
-kind_resets : (p : Plan) (k : CellKind) (ins : List (Option SignalNo)) (control : Control) → length ins ≡ ins_count k → flop_by p k ins ≡ Some (control, Nothing) → control.reset ≡ None
+kind_resets : (p : PackPlan) (k : CellKind) (ins : List (Option SignalNo)) (control : Control) → length ins ≡ ins_count k → flop_by p k ins ≡ Some (control, Nothing) → control.reset ≡ None
 kind_resets p (Lut t) ins control long e = cc e
 kind_resets p (Cover t width) ins control long e = cc e
 kind_resets p Carry ins control long e = cc e

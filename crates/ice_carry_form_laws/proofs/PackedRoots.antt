@@ -24,7 +24,7 @@ use Rattle.ice_cells.specs.Origins.{is_table_kind, input_origin, level_of, origi
 use Rattle.ice_cells.specs.Readings.{carry_root}
 use Rattle.ice_cells.specs.Uses.{dropped, bare_outputs}
 use Rattle.ice_cells.specs.Homes.{Facts, part, part_by, is_kept, openers, home, homes, first_member}
-use Rattle.ice_cells.specs.Packed.{Plan, plan_of, packed, pad_root, root_by, roots_from, one_if, is_global, origin_root, sink_root, sink, enable_sink, plain_sink, cell_of, constant_if, is_level, has_level, zero_by, one_by, port_one, needs_zero, needs_one, global_by, globals_of, carry_source, carry_input}
+use Rattle.ice_cells.specs.Packed.{PackPlan, plan_of, packed, pad_root, root_by, roots_from, one_if, is_global, origin_root, sink_root, sink, enable_sink, plain_sink, cell_of, constant_if, is_level, has_level, zero_by, one_by, port_one, needs_zero, needs_one, global_by, globals_of, carry_source, carry_input}
 use Rattle.ice_pack_share.proofs.HomeLaws.{home_opened}
 use Rattle.ice_carry_chains.specs.Before.{HasCarry}
 use Rattle.ice_carry_form_laws.proofs.Parts.{part_at, is_carry, home_is}
@@ -50,7 +50,7 @@ pub some_read : (d : Design) (r : Root) → IsThere d r → MayRead d (Some r)
 some_read d r there q e = subst (λ (x : Root). IsThere d x) (same_Some r q e) there
 
 -- ---- the roots of the netlist's cells, by place
-pub record RootAt (p : Plan) (os : List Origin) (hs : List ℕ) (j g : ℕ) (cells : List Cell) (i : ℕ) (o : Option Root) : Type 0 where
+pub record RootAt (p : PackPlan) (os : List Origin) (hs : List ℕ) (j g : ℕ) (cells : List Cell) (i : ℕ) (o : Option Root) : Type 0 where
   pub cell : Cell
   pub at : At cells i cell
   pub number : ℕ
@@ -59,7 +59,7 @@ pub record RootAt (p : Plan) (os : List Origin) (hs : List ℕ) (j g : ℕ) (cel
   pub is : root_by os (slice_index_or hs number 0) buffers cell.kind cell.ins cell.outs ≡ o
   pub below : is_global cell.kind ≡ true → buffers < g + length (globals_of p cells)
 
-one_global : (p : Plan) (k : CellKind) (ins : List (Option SignalNo)) → length (global_by p k ins) ≡ one_if (is_global k)
+one_global : (p : PackPlan) (k : CellKind) (ins : List (Option SignalNo)) → length (global_by p k ins) ≡ one_if (is_global k)
 one_global p (kind.Lut t) ins = refl
 one_global p (kind.Cover t width) ins = refl
 one_global p kind.Carry ins = refl
@@ -67,7 +67,7 @@ one_global p (kind.Flop falling enable reset) ins = refl
 one_global p (kind.PadCell pin_type pullup) ins = refl
 one_global p kind.Global ins = refl
 
-pub root_at : (p : Plan) (os : List Origin) (hs : List ℕ) (j g : ℕ) (cells : List Cell) (i : ℕ) (o : Option Root) → At (roots_from os hs j g cells) i o → RootAt p os hs j g cells i o
+pub root_at : (p : PackPlan) (os : List Origin) (hs : List ℕ) (j g : ℕ) (cells : List Cell) (i : ℕ) (o : Option Root) → At (roots_from os hs j g cells) i o → RootAt p os hs j g cells i o
 root_at p os hs j g [] i o at = cc at
 root_at p os hs j g (cell ∷ cells) zero o at = record {
   cell = cell;
@@ -119,7 +119,7 @@ constant_long true level = refl
 constant_long false level = refl
 
 module _ (n : NetlistData) where
-  abbrev p : Plan
+  abbrev p : PackPlan
   p = plan_of n
 
   abbrev f : Facts

@@ -7,7 +7,8 @@ use Rattle.std.proofs.lemmas.List.{get_or_past, length-map}
 use Rattle.std.proofs.lemmas.Option.{same_Some}
 use Rattle.ice_base.specs.Lists.{all_known}
 use Rattle.ice_base.specs.declared.number.SignalNo.{SignalNo}
-use Rattle.ice_base_values.specs.System.{value, try_reading}
+use Rattle.ice_base_values.specs.System.{value}
+use Rattle.ice_base_values.specs.Simulations.{try_reading}
 use Rattle.ice_base_values.proofs.Gaps.{value_gapped}
 use Rattle.ice_net.specs.declared.cell.Cell.{Cell}
 use Rattle.ice_net.specs.declared.driver.SignalDriver.{SignalDriver}

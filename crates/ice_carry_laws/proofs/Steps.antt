@@ -7,7 +7,8 @@ use Rattle.ice_net.specs.Drives.{pad_drive}
 use Rattle.ice_net.specs.Kinds.{is_edge, fired}
 use Rattle.ice_net.specs.Meaning.{number_of, table_bit, State}
 use Rattle.ice_base_values.specs.Arriving.{HasValue}
-use Rattle.ice_base_values.specs.System.{reading, Simulates}
+use Rattle.ice_base_values.specs.System.{reading}
+use Rattle.ice_base_values.specs.Simulations.{Simulates}
 use Rattle.ice_base_values.specs.Order.{At, Has}
 use Rattle.ice_base_values.proofs.Machines.{shows_always_alike}
 use Rattle.ice_base_values.proofs.Members.{At_within}

@@ -11,7 +11,7 @@ use Rattle.ice_base_values.proofs.Members.{map_At}
 use Rattle.ice_net.specs.declared.cell.Cell.{Cell}
 use Rattle.ice_net.specs.declared.kind.CellKind.{CellKind}
 use Rattle.ice_net.specs.declared.kind.CellKind.TheVariants.{Lut, Cover, Carry, Flop, PadCell, Global}
-use Rattle.ice_net.specs.Drives.{uses_by}
+use Rattle.ice_net.specs.Uses.{uses_by}
 use Rattle.ice_net.specs.Formed.{IsBelow, IsFormedCell, IsFormed}
 use Rattle.ice_net.specs.NetlistData.{NetlistData}
 use Rattle.ice_check.specs.Faults.{uses_of}

@@ -24,7 +24,8 @@ fn tail_name(alloc: Global, name: &[u8]) -> Result<Vec<u8>, NoMemory>
 fn add_names(alloc: Global, netlist: &mut Netlist, count: u32) -> Result<(), NoMemory>
     requires few { count ≤ length netlist.old.names }
     requires room { HasRoomForNames netlist.old (tail_names netlist.old.names count) }
-    ensures { OnOk result (netlist.new ≡ with_names netlist.old (tail_names netlist.old.names count)) }
+    ensures { OnOk result
+        (netlist.new ≡ with_names netlist.old (tail_names netlist.old.names count)) }
 {
     for signal in 0..count {
         let name = tail_name(alloc, netlist.name(SignalNo(signal)))?;
@@ -58,7 +59,8 @@ fn add_tails(
 ) -> Result<(), NoMemory>
     requires few { first + length tables.now < 2 ^ 32 }
     requires below { All (λ table. table < length netlist.old.cells) tables.now }
-    requires room { HasRoomForCells netlist.old (tails first (map (read_behind netlist.old.cells) tables.now)) }
+    requires room { HasRoomForCells netlist.old
+        (tails first (map (read_behind netlist.old.cells) tables.now)) }
     ensures { OnOk result (netlist.new
         ≡ with_cells netlist.old (tails first (map (read_behind netlist.old.cells) tables.now))) }
 {

@@ -162,7 +162,8 @@ fn free_by(
     tables: &[usize],
 ) -> Result<Vec<usize>, NoMemory>
     requires { All (λ table. table < length cells.now) tables.now }
-    ensures { IfOk result (λ free. free.items ≡ filter (can_share carriers.now found.now cells.now) tables.now) }
+    ensures { IfOk result (λ free.
+        free.items ≡ filter (can_share carriers.now found.now cells.now) tables.now) }
 {
     let mut free = Vec::new(alloc);
     for table in tables {

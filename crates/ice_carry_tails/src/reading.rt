@@ -47,7 +47,8 @@ fn all_read(alloc: Global, netlist: &Netlist) -> Result<Vec<Option<SignalNo>>, N
 #[tactic(auto, using(crate::proofs::ReadSignals::read_below))]
 pub(crate) fn reads_of(alloc: Global, netlist: &Netlist) -> Result<Vec<usize>, NoMemory>
     requires { IsFormed netlist.now }
-    ensures { IfOk result (λ table. AreTimes (length netlist.now.names) (all_read netlist.now) table.items) }
+    ensures { IfOk result (λ table.
+        AreTimes (length netlist.now.names) (all_read netlist.now) table.items) }
 {
     let list = all_read(alloc, netlist)?;
     let table = times_of(alloc, netlist.signals() as usize, &list)?;

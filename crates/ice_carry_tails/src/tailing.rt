@@ -28,7 +28,8 @@ fn grown(alloc: Global, sound: Sound, tables: &[usize]) -> Result<Sound, NoMemor
 // What is known of the netlist with its carries.
 fn tailed_is_sound(sound: &Sound)
     ensures sound { IsSound (tailed sound.now) }
-    ensures shows { (levels : List (List Bool)) → shows (tailed sound.now) levels ≡ shows sound.now levels }
+    ensures shows { (levels : List (List Bool))
+        → shows (tailed sound.now) levels ≡ shows sound.now levels }
 {
     tailed_are_sound();
     tailed_show_the_same();
@@ -61,7 +62,8 @@ pub fn add_tails(alloc: Global, sound: Sound) -> Result<Sound, NoMemory>
     ensures netlist { IfOk result (λ made. made ≡ tailed sound) }
     ensures sound { IsSound (tailed sound) }
     ensures ports { IfOk result (λ made. made.ports ≡ sound.ports) }
-    ensures shows { IfOk result (λ made. (levels : List (List Bool)) → shows made levels ≡ shows sound levels) }
+    ensures shows { IfOk result (λ made.
+        (levels : List (List Bool)) → shows made levels ≡ shows sound levels) }
 {
     tailed_is_sound(&sound);
     let made = grown_or_same(alloc, sound)?;

@@ -12,7 +12,8 @@ use Rattle.ice_net.specs.declared.port.Way.{Way}
 use Rattle.ice_net.specs.declared.port.Way.TheVariants.{Input, Output, Both}
 use Rattle.ice_net.specs.NetlistData.{NetlistData}
 use Rattle.ice_net.specs.Drivers.{buffer_at}
-use Rattle.ice_net.specs.Drives.{input_type, output_type, pad_uses}
+use Rattle.ice_net.specs.Drives.{output_type}
+use Rattle.ice_net.specs.Uses.{input_type, pad_uses}
 use Rattle.ice_lut.specs.Tables.{folded, rewired}
 use Rattle.ice_cells.specs.declared.cell.Control.{Control}
 use Rattle.ice_cells.specs.declared.cell.LogicCell.{LogicCell}
@@ -33,7 +34,7 @@ use Rattle.ice_cells.specs.Homes as homes_of
 use Rattle.ice_cells.specs.Homes.{Facts, facts_of, carriers_of, openers, homes, anchor}
 
 -- what the cells, pads and buffers of the design are made by
-pub record Plan : Type 0 where
+pub record PackPlan : Type 0 where
   -- the origin of each signal
   pub origins : List Origin
   -- what is known of the netlist's cells
@@ -96,16 +97,16 @@ sink_root bare cell roots (Pad k) = Some (PadIn k)
 sink_root bare cell roots (Made j) = slice_index_or roots j None
 
 -- a sink that reads 0 where nothing drives it
-abbrev pub sink : Plan → Option SignalNo → Option Root
+abbrev pub sink : PackPlan → Option SignalNo → Option Root
 sink p input = sink_root false p.one p.roots (input_origin p.origins input)
 
 -- an enable, which reads 1 where nothing drives it; a missing one is left so
-abbrev pub enable_sink : Plan → Option SignalNo → Option Root
+abbrev pub enable_sink : PackPlan → Option SignalNo → Option Root
 enable_sink p None = None
 enable_sink p (Some signal) = sink_root true p.zero p.roots (input_origin p.origins (Some signal))
 
 -- an input of a table, a clock, or what a flip-flop takes: it needs no cell of a constant
-abbrev pub plain_sink : Plan → Option SignalNo → Option Root
+abbrev pub plain_sink : PackPlan → Option SignalNo → Option Root
 plain_sink p input = origin_root p.roots (input_origin p.origins input)
 
 -- ---- flip-flops
@@ -118,7 +119,7 @@ abbrev pub set_input : Bool → List (Option SignalNo) → Option SignalNo
 set_input true ins = slice_index_or ins 3 None
 set_input false ins = slice_index_or ins 2 None
 
-abbrev pub flop_by : Plan → CellKind → List (Option SignalNo) → Option (Control × Reset)
+abbrev pub flop_by : PackPlan → CellKind → List (Option SignalNo) → Option (Control × Reset)
 flop_by p (Lut t) ins = None
 flop_by p (Cover t width) ins = None
 flop_by p Carry ins = None
@@ -134,7 +135,7 @@ flop_by p (Flop falling enable reset) ins = Some (
 flop_by p (PadCell pin_type pullup) ins = None
 flop_by p Global ins = None
 
-abbrev pub flop_of : Plan → List Cell → Option ℕ → Option (Control × Reset)
+abbrev pub flop_of : PackPlan → List Cell → Option ℕ → Option (Control × Reset)
 flop_of p cells None = None
 flop_of p cells (Some f) = option_map_or (λ (cell : Cell). flop_by p cell.kind cell.ins) (slice_get cells f) None
 
@@ -169,10 +170,10 @@ abbrev pub no_inputs : List (Option Root)
 no_inputs = None ∷ None ∷ None ∷ None ∷ []
 
 -- a look-up table has its constant inputs in its table
-abbrev pub lut_table : Plan → List Cell → ℕ → ℕ
+abbrev pub lut_table : PackPlan → List Cell → ℕ → ℕ
 lut_table p cells j = folded (table_at cells j) 0 (four (input_level p.origins) (ins_at cells j))
 
-abbrev pub lut_inputs : Plan → List Cell → ℕ → List (Option Root)
+abbrev pub lut_inputs : PackPlan → List Cell → ℕ → List (Option Root)
 lut_inputs p cells j = four (plain_sink p) (ins_at cells j)
 
 -- a flip-flop with a cell of its own has a table that passes what it takes from the first input, or is its constant
@@ -185,39 +186,39 @@ abbrev pub data_input : List Cell → ℕ → Option SignalNo
 data_input cells f = slice_index_or (ins_at cells f) 1 None
 
 -- the table and the inputs by the part of the anchor
-abbrev pub table_for : Plan → List Cell → ℕ → Part → ℕ
+abbrev pub table_for : PackPlan → List Cell → ℕ → Part → ℕ
 table_for p cells a part.Table = lut_table p cells a
 table_for p cells a (part.Flop taken) = passing_table (input_origin p.origins (data_input cells a))
 table_for p cells a part.Carry = 0
 table_for p cells a part.Nothing = 0
 
-abbrev pub inputs_for : Plan → List Cell → ℕ → Part → List (Option Root)
+abbrev pub inputs_for : PackPlan → List Cell → ℕ → Part → List (Option Root)
 inputs_for p cells a part.Table = lut_inputs p cells a
 inputs_for p cells a (part.Flop taken) = plain_sink p (data_input cells a) ∷ None ∷ None ∷ None ∷ []
 inputs_for p cells a part.Carry = no_inputs
 inputs_for p cells a part.Nothing = no_inputs
 
 -- the flip-flop and the carry of a logic cell
-abbrev pub flop_for : Plan → ℕ → Part → Option ℕ
+abbrev pub flop_for : PackPlan → ℕ → Part → Option ℕ
 flop_for p a part.Table = homes_of.taker p.facts a
 flop_for p a (part.Flop taken) = Some a
 flop_for p a part.Carry = None
 flop_for p a part.Nothing = None
 
-abbrev pub carry_for : Plan → ℕ → Part → Option ℕ
+abbrev pub carry_for : PackPlan → ℕ → Part → Option ℕ
 carry_for p a part.Table = slice_index_or p.carriers a None
 carry_for p a (part.Flop taken) = None
 carry_for p a part.Carry = Some a
 carry_for p a part.Nothing = None
 
 -- the inputs where a carry has its own two among them
-abbrev pub with_carry : Plan → List Cell → List (Option Root) → Option ℕ → List (Option Root)
+abbrev pub with_carry : PackPlan → List Cell → List (Option Root) → Option ℕ → List (Option Root)
 with_carry p cells inputs None = inputs
 with_carry p cells inputs (Some c) =
     slice_index_or inputs 0 None ∷ sink p (slice_index_or (ins_at cells c) 0 None) ∷ sink p (slice_index_or (ins_at cells c) 1 None) ∷ slice_index_or inputs 3 None ∷ []
 
 -- the logic cell of those that go by an anchor
-abbrev pub cell_by : Plan → List Cell → ℕ → Part → LogicCell
+abbrev pub cell_by : PackPlan → List Cell → ℕ → Part → LogicCell
 cell_by p cells a kind = record {
   table = table_for p cells a kind;
   ins = with_carry p cells (inputs_for p cells a kind) (carry_for p a kind);
@@ -226,7 +227,7 @@ cell_by p cells a kind = record {
   flop = flop_of p cells (flop_for p a kind);
 }
 
-abbrev pub cell_of : Plan → List Cell → ℕ → LogicCell
+abbrev pub cell_of : PackPlan → List Cell → ℕ → LogicCell
 cell_of p cells j = cell_by p cells (anchor p.facts j) (homes_of.part p.facts (anchor p.facts j))
 
 -- ---- constants that must be driven
@@ -277,7 +278,7 @@ abbrev pub constant_if : Bool → Bool → List LogicCell
 constant_if needed level = if needed then constant_cell level ∷ [] else []
 
 -- ---- pads and global buffers
-abbrev pub bare_drive : Plan → Way → SignalNo → Option Root
+abbrev pub bare_drive : PackPlan → Way → SignalNo → Option Root
 bare_drive p Input signal = None
 bare_drive p Output signal = sink p (Some signal)
 bare_drive p Both signal = None
@@ -288,11 +289,11 @@ bare_type Output = output_type
 bare_type Both = input_type
 
 -- the pad of a port without an SB_IO
-abbrev pub bare_pad : Plan → ℕ → Port → DesignPad
+abbrev pub bare_pad : PackPlan → ℕ → Port → DesignPad
 bare_pad p k port = record { port = k; pin_type = bare_type port.way; pullup = false; drive = bare_drive p port.way port.signal; enable = None; reads = false }
 
 -- the pad of a port at an SB_IO, by the kind of that
-abbrev pub buffered_pad : Plan → ℕ → Port → List (Option SignalNo) → CellKind → DesignPad
+abbrev pub buffered_pad : PackPlan → ℕ → Port → List (Option SignalNo) → CellKind → DesignPad
 buffered_pad p k port ins (Lut t) = bare_pad p k port
 buffered_pad p k port ins (Cover t width) = bare_pad p k port
 buffered_pad p k port ins Carry = bare_pad p k port
@@ -307,17 +308,17 @@ buffered_pad p k port ins (PadCell pin_type pullup) = record {
 }
 buffered_pad p k port ins Global = bare_pad p k port
 
-abbrev pub pad_by : Plan → List Cell → ℕ → Port → Option ℕ → DesignPad
+abbrev pub pad_by : PackPlan → List Cell → ℕ → Port → Option ℕ → DesignPad
 pad_by p cells k port None = bare_pad p k port
 pad_by p cells k port (Some i) = option_map_or (λ (cell : Cell). buffered_pad p k port cell.ins cell.kind) (slice_get cells i) (bare_pad p k port)
 
 -- the pads of ports, the first of which is port k
-abbrev pub pads_from : Plan → List Cell → ℕ → List Port → List DesignPad
+abbrev pub pads_from : PackPlan → List Cell → ℕ → List Port → List DesignPad
 pads_from p cells k [] = []
 pads_from p cells k (port ∷ ports) = pad_by p cells k port (buffer_at cells port.signal.0) ∷ pads_from p cells (k + 1) ports
 
 -- what an SB_GB reads
-abbrev pub global_by : Plan → CellKind → List (Option SignalNo) → List (Option Root)
+abbrev pub global_by : PackPlan → CellKind → List (Option SignalNo) → List (Option Root)
 global_by p (Lut t) ins = []
 global_by p (Cover t width) ins = []
 global_by p Carry ins = []
@@ -325,7 +326,7 @@ global_by p (Flop falling enable reset) ins = []
 global_by p (PadCell pin_type pullup) ins = []
 global_by p Global ins = sink p (slice_index_or ins 0 None) ∷ []
 
-abbrev pub globals_of : Plan → List Cell → List (Option Root)
+abbrev pub globals_of : PackPlan → List Cell → List (Option Root)
 globals_of p cells = flat_map (λ (cell : Cell). global_by p cell.kind cell.ins) cells
 
 -- ---- what comes into carries
@@ -338,7 +339,7 @@ carry_input roots (Fixed level) = carry_in.Fixed level
 carry_input roots (Pad k) = carry_in.Read (PadIn k)
 carry_input roots (Made j) = carry_source (slice_index_or roots j None)
 
-abbrev pub carry_by : Plan → ℕ → CellKind → List (Option SignalNo) → List (Option SignalNo) → List (ℕ × CarryIn)
+abbrev pub carry_by : PackPlan → ℕ → CellKind → List (Option SignalNo) → List (Option SignalNo) → List (ℕ × CarryIn)
 carry_by p c (Lut t) ins outs = []
 carry_by p c (Cover t width) ins outs = []
 carry_by p c Carry ins outs = if dropped outs then [] else (c, carry_input p.roots (input_origin p.origins (slice_index_or ins 2 None))) ∷ []
@@ -347,12 +348,12 @@ carry_by p c (PadCell pin_type pullup) ins outs = []
 carry_by p c Global ins outs = []
 
 -- those of cells, the first of which has number j
-abbrev pub carries_from : Plan → List ℕ → ℕ → List Cell → List (ℕ × CarryIn)
+abbrev pub carries_from : PackPlan → List ℕ → ℕ → List Cell → List (ℕ × CarryIn)
 carries_from p hs j [] = []
 carries_from p hs j (cell ∷ cells) = carry_by p (slice_index_or hs j 0) cell.kind cell.ins cell.outs ++ carries_from p hs (j + 1) cells
 
 -- ---- the design
-abbrev pub plan_by : List Cell → List Origin → Facts → Plan
+abbrev pub plan_by : List Cell → List Origin → Facts → PackPlan
 plan_by cells os facts = record {
   origins = os;
   facts = facts;
@@ -365,15 +366,15 @@ plan_by cells os facts = record {
 abbrev pub facts : NetlistData → Facts
 facts n = facts_of (origins n) n.cells (bare_outputs n)
 
-abbrev pub plan_of : NetlistData → Plan
+abbrev pub plan_of : NetlistData → PackPlan
 plan_of n = plan_by n.cells (origins n) (facts n)
 
 -- all logic cells: those that are opened at the netlist's, and then those of constants
-abbrev pub cells_by : Plan → List Cell → List Port → List ℕ → List LogicCell
+abbrev pub cells_by : PackPlan → List Cell → List Port → List ℕ → List LogicCell
 cells_by p cells bare opened = map (cell_of p cells) opened ++ constant_if (needs_zero p.origins cells) false ++ constant_if (needs_one p.origins cells bare) true
 
 -- the design by a plan, before it is known which pads are read
-abbrev pub unread_by : NetlistData → Plan → Design
+abbrev pub unread_by : NetlistData → PackPlan → Design
 unread_by n p = record {
   cells = cells_by p n.cells (bare_outputs n) (openers p.facts);
   runs = [];

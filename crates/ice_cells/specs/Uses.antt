@@ -9,7 +9,7 @@ use Rattle.ice_net.specs.declared.port.Way.{Way}
 use Rattle.ice_net.specs.declared.port.Way.TheVariants.{Input, Output, Both}
 use Rattle.ice_net.specs.NetlistData.{NetlistData}
 use Rattle.ice_net.specs.Drivers.{has_buffer}
-use Rattle.ice_net.specs.Drives.{pad_uses}
+use Rattle.ice_net.specs.Uses.{pad_uses}
 use Rattle.ice_cells.specs.declared.origin.Origin.{Origin}
 use Rattle.ice_cells.specs.declared.origin.Origin.TheVariants.{Fixed, Pad, Made}
 use Rattle.ice_cells.specs.declared.origin.Use.{Use}

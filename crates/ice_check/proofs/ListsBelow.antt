@@ -11,7 +11,8 @@ use Rattle.ice_net.specs.declared.port.Port.{Port}
 use Rattle.ice_net.specs.declared.port.Way.{Way}
 use Rattle.ice_net.specs.declared.port.Way.TheVariants.{Input, Output, Both}
 use Rattle.std.specs.List.{flat_map}
-use Rattle.ice_net.specs.Drives.{output_type, enabled_type, data_of, enable_of, pad_uses, uses_by}
+use Rattle.ice_net.specs.Drives.{output_type, enabled_type}
+use Rattle.ice_net.specs.Uses.{data_of, enable_of, pad_uses, uses_by}
 use Rattle.ice_check.specs.Faults.{uses_of, shown_by, shown_of}
 use Rattle.ice_net.specs.NetlistData.{NetlistData}
 use Rattle.ice_net.specs.Formed.{IsBelow, IsPortBelow, IsFormedCell, IsFormed}

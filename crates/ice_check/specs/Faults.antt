@@ -10,11 +10,12 @@ use Rattle.ice_net.specs.declared.kind.CellKind.TheVariants.{Lut, Cover, Carry, 
 use Rattle.ice_net.specs.declared.port.Port.{Port}
 use Rattle.ice_net.specs.declared.port.Way.{Way}
 use Rattle.ice_net.specs.declared.port.Way.TheVariants.{Input, Output, Both}
-use Rattle.ice_net.specs.NetlistData.{NetlistData, way_of}
+use Rattle.ice_net.specs.NetlistData.{NetlistData}
+use Rattle.ice_net.specs.Ways.{way_of}
 use Rattle.ice_net.specs.declared.driver.SignalDriver.{SignalDriver}
 use Rattle.ice_net.specs.declared.driver.SignalDriver.TheVariants as driver
 use Rattle.ice_net.specs.Drivers.{is_there, place_of, pin_of, has_buffer, pad_signals, outputs, driver_of}
-use Rattle.ice_net.specs.Drives.{is_type, uses_by}
+use Rattle.ice_net.specs.Uses.{is_type, uses_by}
 use Rattle.ice_check.specs.Tables.{times}
 
 -- ---- the first of several

@@ -1,7 +1,7 @@
 //! The faults of a cell by itself: an SB_IO of no known type, or at no port.
 ghost use Rattle.std.specs.Prelude.{◌≡◌};
 ghost use Rattle.ice_net.specs.Drivers.{pin_of};
-ghost use Rattle.ice_net.specs.Drives.{is_type};
+ghost use Rattle.ice_net.specs.Uses.{is_type};
 ghost use Rattle.ice_net.specs.declared.cell.Cell.{Cell};
 ghost use Rattle.ice_check.specs.Faults.{cell_is, is_type_out, is_no_port, is_portless, pin_type_out, pin_not_port};
 
@@ -81,8 +81,8 @@ fn is_portless(netlist: &Netlist, cell: &Cell) -> bool
 
 // Whether the cell at a place is an SB_IO at no port.
 fn portless_at(netlist: &Netlist, place: usize) -> bool
-    ensures { result
-        ≡ cell_is netlist.now (λ (cell : Cell). is_portless netlist.now.ports cell.kind (pin_of cell)) place }
+    ensures { result ≡ cell_is netlist.now
+        (λ (cell : Cell). is_portless netlist.now.ports cell.kind (pin_of cell)) place }
 {
     match netlist.cells().get(place) {
         Some(cell) => is_portless(netlist, cell),

@@ -69,7 +69,8 @@ fn check_signals(
 ) -> Result<Vec<usize>, NetFault>
     requires formed { IsFormed netlist.now }
     requires drivers { AreDrivers netlist.now drivers.now }
-    ensures order { IfOk result (λ order. IsOrder (length netlist.now.names) (depends_on netlist.now) order.items) }
+    ensures order { IfOk result (λ order.
+        IsOrder (length netlist.now.names) (depends_on netlist.now) order.items) }
     ensures sound { OnOk result (AreSignalsSound netlist.now) }
     ensures fault { IfErr result (IsFaultOf netlist.now) }
 {
@@ -116,8 +117,10 @@ fn check_pads(alloc: Global, netlist: &Netlist) -> Result<(), NetFault>
 fn orders(alloc: Global, netlist: &Netlist, drivers: &[SignalDriver]) -> Result<Orders, NetFault>
     requires formed { IsFormed netlist.now }
     requires drivers { AreDrivers netlist.now drivers.now }
-    ensures cells { IfOk result (λ orders. IsOrder (length netlist.now.cells) (cells_before netlist.now) orders.cells.items) }
-    ensures signals { IfOk result (λ orders. IsOrder (length netlist.now.names) (depends_on netlist.now) orders.signals.items) }
+    ensures cells { IfOk result (λ orders.
+        IsOrder (length netlist.now.cells) (cells_before netlist.now) orders.cells.items) }
+    ensures signals { IfOk result (λ orders.
+        IsOrder (length netlist.now.names) (depends_on netlist.now) orders.signals.items) }
     ensures sound { OnOk result (AreSignalsSound netlist.now) }
     ensures fault { IfErr result (IsFaultOf netlist.now) }
 {

@@ -25,7 +25,8 @@ pub(crate) struct SignalTables {
 /// Want of memory alone.
 #[tactic(auto, using(crate::proofs::ListsBelow::pins_below))]
 pub(crate) fn buffers(alloc: Global, netlist: &Netlist) -> Result<Vec<Option<usize>>, NoMemory>
-    ensures places { IfOk result (λ table. ArePlaces (length netlist.now.names) (map pin_of netlist.now.cells) table.items) }
+    ensures places { IfOk result (λ table.
+        ArePlaces (length netlist.now.names) (map pin_of netlist.now.cells) table.items) }
     ensures formed { IsFormed netlist.now }
 {
     let pins = pins(alloc, netlist.cells())?;
@@ -64,7 +65,8 @@ fn joined(
 // The place of the first port whose pad drives each signal.
 #[tactic(auto, using(crate::proofs::ListsBelow::pads_below))]
 fn pad_places(alloc: Global, netlist: &Netlist) -> Result<Vec<Option<usize>>, NoMemory>
-    ensures places { IfOk result (λ table. ArePlaces (length netlist.now.names) (pad_signals netlist.now) table.items) }
+    ensures places { IfOk result (λ table.
+        ArePlaces (length netlist.now.names) (pad_signals netlist.now) table.items) }
     ensures formed { IsFormed netlist.now }
 {
     let buffers = buffers(alloc, netlist)?;
@@ -76,7 +78,8 @@ fn pad_places(alloc: Global, netlist: &Netlist) -> Result<Vec<Option<usize>>, No
 // The place of the first cell whose output drives each signal.
 #[tactic(auto, using(crate::proofs::ListsBelow::outputs_below))]
 fn output_places(alloc: Global, netlist: &Netlist) -> Result<Vec<Option<usize>>, NoMemory>
-    ensures { IfOk result (λ table. ArePlaces (length netlist.now.names) (outputs netlist.now) table.items) }
+    ensures { IfOk result (λ table.
+        ArePlaces (length netlist.now.names) (outputs netlist.now) table.items) }
 {
     let outputs = outputs(alloc, netlist.cells())?;
     let table = places(alloc, netlist.signals() as usize, &outputs)?;
@@ -103,7 +106,8 @@ pub(crate) fn drivers(alloc: Global, netlist: &Netlist) -> Result<Vec<SignalDriv
 /// Want of memory alone.
 pub(crate) fn signal_tables(alloc: Global, netlist: &Netlist) -> Result<SignalTables, NoMemory>
     ensures drivers { IfOk result (λ tables. AreDrivers netlist.now tables.drivers.items) }
-    ensures buffers { IfOk result (λ tables. ArePlaces (length netlist.now.names) (map pin_of netlist.now.cells) tables.buffers.items) }
+    ensures buffers { IfOk result (λ tables.
+        ArePlaces (length netlist.now.names) (map pin_of netlist.now.cells) tables.buffers.items) }
     ensures formed { IsFormed netlist.now }
 {
     let buffers = buffers(alloc, netlist)?;

@@ -59,7 +59,8 @@ pub(crate) fn outputs(alloc: Global, cells: &[Cell]) -> Result<Vec<Option<Signal
 
 // The signal that the pad of a port drives, by the first SB_IO at each signal.
 fn pad_of(netlist: &Netlist, buffers: &[Option<usize>], port: Port) -> Option<SignalNo>
-    requires buffers { ArePlaces (length netlist.now.names) (map pin_of netlist.now.cells) buffers.now }
+    requires buffers { ArePlaces (length netlist.now.names)
+        (map pin_of netlist.now.cells) buffers.now }
     requires within { port.signal.0 < length netlist.now.names }
     ensures { result ≡ pad_of netlist.now.cells port }
 {

@@ -27,8 +27,8 @@ fn push_cells(
     signals: &[usize],
     row: &mut Vec<usize>,
 ) -> Result<(), NoMemory>
-    ensures { OnOk result (row.new.items
-        ≡ row.old.items ++ cells_at (λ s. slice_index_or drivers.now s SignalDriver.Nothing) signals.now) }
+    ensures { OnOk result (row.new.items ≡ row.old.items
+        ++ cells_at (λ s. slice_index_or drivers.now s SignalDriver.Nothing) signals.now) }
 {
     for &signal in signals {
         if let Some(cell) = cell_at(drivers, signal) {
@@ -81,7 +81,8 @@ pub(crate) fn order_of_cells(
 ) -> Result<Vec<u32>, NoMemory>
     requires drivers { AreDrivers netlist.now drivers.now }
     requires signals { HasOrder netlist.now }
-    ensures { IfOk result (λ order. IsOrder (length netlist.now.cells) (cells_before netlist.now) order.items) }
+    ensures { IfOk result (λ order.
+        IsOrder (length netlist.now.cells) (cells_before netlist.now) order.items) }
 {
     let graph = graph_of_cells(alloc, netlist, drivers)?;
     match order(alloc, &graph)? {

@@ -2,7 +2,7 @@
 ghost use Rattle.std.specs.Prelude.{◌≡◌, ◌<◌, ◌+◌, ◌++◌, length, map, nat_lt, IfOk, OnOk};
 ghost use Rattle.std.specs.List.{flat_map};
 ghost use Rattle.ice_net.specs.Drivers.{pin_of, pad_signals, outputs};
-ghost use Rattle.ice_net.specs.Drives.{pad_uses};
+ghost use Rattle.ice_net.specs.Uses.{pad_uses};
 ghost use Rattle.ice_check.specs.Tables.{ArePlaces, AreTimes, AreDrivers};
 ghost use Rattle.ice_check.specs.Faults.{uses_of, shown_by, shown_of, is_nothing, undriven, driven_twice};
 
@@ -70,7 +70,8 @@ fn shown_by(port: Port, buffered: bool) -> Option<SignalNo>
 
 // The signal that a port shows, by the first SB_IO at each signal.
 fn shown_of(netlist: &Netlist, buffers: &[Option<usize>], port: Port) -> Option<SignalNo>
-    requires buffers { ArePlaces (length netlist.now.names) (map pin_of netlist.now.cells) buffers.now }
+    requires buffers { ArePlaces (length netlist.now.names)
+        (map pin_of netlist.now.cells) buffers.now }
     requires within { port.signal.0 < length netlist.now.names }
     ensures { result ≡ shown_of netlist.now.cells port }
 {
@@ -80,7 +81,8 @@ fn shown_of(netlist: &Netlist, buffers: &[Option<usize>], port: Port) -> Option<
 // The first place at which an input in use of a cell reads each signal, in the list of all inputs in use.
 #[tactic(auto, using(crate::proofs::ListsBelow::uses_below))]
 fn used_at(alloc: Global, netlist: &Netlist) -> Result<Vec<Option<usize>>, NoMemory>
-    ensures { IfOk result (λ table. ArePlaces (length netlist.now.names) (flat_map uses_of netlist.now.cells) table.items) }
+    ensures { IfOk result (λ table.
+        ArePlaces (length netlist.now.names) (flat_map uses_of netlist.now.cells) table.items) }
 {
     let uses = uses(alloc, netlist.cells())?;
     let table = places(alloc, netlist.signals() as usize, &uses)?;
@@ -90,7 +92,8 @@ fn used_at(alloc: Global, netlist: &Netlist) -> Result<Vec<Option<usize>>, NoMem
 // The place of the first port that shows each signal.
 #[tactic(auto, using(crate::proofs::ListsBelow::shown_below))]
 fn shown_at(alloc: Global, netlist: &Netlist) -> Result<Vec<Option<usize>>, NoMemory>
-    ensures { IfOk result (λ table. ArePlaces (length netlist.now.names) (map (shown_of netlist.now.cells) netlist.now.ports) table.items) }
+    ensures { IfOk result (λ table. ArePlaces (length netlist.now.names)
+        (map (shown_of netlist.now.cells) netlist.now.ports) table.items) }
 {
     let buffers = buffers(alloc, netlist)?;
     let mut shown = Vec::new(alloc);
@@ -120,8 +123,10 @@ fn first_undriven(
     shown: &[Option<usize>],
 ) -> Option<usize>
     requires drivers { AreDrivers netlist.now drivers.now }
-    requires used { ArePlaces (length netlist.now.names) (flat_map uses_of netlist.now.cells) used.now }
-    requires shown { ArePlaces (length netlist.now.names) (map (shown_of netlist.now.cells) netlist.now.ports) shown.now }
+    requires used { ArePlaces (length netlist.now.names)
+        (flat_map uses_of netlist.now.cells) used.now }
+    requires shown { ArePlaces (length netlist.now.names)
+        (map (shown_of netlist.now.cells) netlist.now.ports) shown.now }
     ensures { result ≡ undriven netlist.now }
 {
     for signal in 0..drivers.len() {
@@ -173,7 +178,8 @@ fn first_twice(netlist: &Netlist, pad_counts: &[usize], output_counts: &[usize])
 // How often each signal is driven by a pad.
 #[tactic(auto, using(crate::proofs::ListsBelow::pads_below))]
 fn pad_counts(alloc: Global, netlist: &Netlist) -> Result<Vec<usize>, NoMemory>
-    ensures { IfOk result (λ table. AreTimes (length netlist.now.names) (pad_signals netlist.now) table.items) }
+    ensures { IfOk result (λ table.
+        AreTimes (length netlist.now.names) (pad_signals netlist.now) table.items) }
 {
     let buffers = buffers(alloc, netlist)?;
     let pads = pads(alloc, netlist, &buffers)?;
@@ -184,7 +190,8 @@ fn pad_counts(alloc: Global, netlist: &Netlist) -> Result<Vec<usize>, NoMemory>
 // How often each signal is driven by an output.
 #[tactic(auto, using(crate::proofs::ListsBelow::outputs_below))]
 fn output_counts(alloc: Global, netlist: &Netlist) -> Result<Vec<usize>, NoMemory>
-    ensures { IfOk result (λ table. AreTimes (length netlist.now.names) (outputs netlist.now) table.items) }
+    ensures { IfOk result (λ table.
+        AreTimes (length netlist.now.names) (outputs netlist.now) table.items) }
 {
     let outputs = outputs(alloc, netlist.cells())?;
     let table = times_of(alloc, netlist.signals() as usize, &outputs)?;

@@ -37,7 +37,8 @@ impl Model for Sound {
 
     ghost view = { λ s. s.netlist };
 
-    ghost invariant = { λ s. IsChecked s.netlist s.orders.cells.items s.orders.signals.items s.tables.drivers.items s.tables.buffers.items };
+    ghost invariant = { λ s. IsChecked s.netlist s.orders.cells.items s.orders.signals.items
+        s.tables.drivers.items s.tables.buffers.items };
 }
 
 impl Sound {
@@ -54,7 +55,8 @@ impl Sound {
         ensures formed { IsFormed self.now }
         ensures single { IsSingle self.now }
         ensures sound { IsSound self.now }
-        ensures ordered { (order : List ℕ) × IsOrder (length self.now.names) (depends_on self.now) order }
+        ensures ordered { (order : List ℕ)
+            × IsOrder (length self.now.names) (depends_on self.now) order }
     {
         self.netlist.is_formed();
     }
@@ -96,7 +98,8 @@ impl Sound {
 
     // A sound netlist with what was found of it.
     pub(crate) fn of(netlist: Netlist, orders: Orders, tables: SignalTables) -> Sound
-        requires { IsChecked netlist orders.cells.items orders.signals.items tables.drivers.items tables.buffers.items }
+        requires { IsChecked netlist orders.cells.items orders.signals.items
+            tables.drivers.items tables.buffers.items }
         ensures { result ≡ netlist }
     {
         Sound {

@@ -100,8 +100,10 @@ fn add_one(table: &mut Vec<usize>, index: usize)
     requires index { index < length table.old.items }
     requires room { slice_index_or table.old.items index 0 < 9223372036854775808 }
     ensures length { length table.new.items ≡ length table.old.items }
-    ensures added { slice_index_or table.new.items index 0 ≡ slice_index_or table.old.items index 0 + 1 }
-    ensures others { (s : ℕ) → s ≢ index → slice_index_or table.new.items s 0 ≡ slice_index_or table.old.items s 0 }
+    ensures added { slice_index_or table.new.items index 0
+        ≡ slice_index_or table.old.items index 0 + 1 }
+    ensures others { (s : ℕ) → s ≢ index
+        → slice_index_or table.new.items s 0 ≡ slice_index_or table.old.items s 0 }
 {
     table[index] += 1;
 }

@@ -10,7 +10,7 @@ use Rattle.ice_net.specs.declared.kind.CellKind.{CellKind}
 use Rattle.ice_net.specs.declared.kind.CellKind.TheVariants.{Lut, Cover, Carry, Flop, PadCell, Global}
 use Rattle.ice_net.specs.Drivers.{place_of, pin_by, pin_of, output_of}
 use Rattle.ice_net.specs.Meaning.{reads_by}
-use Rattle.ice_net.specs.Drives.{uses_by}
+use Rattle.ice_net.specs.Uses.{uses_by}
 use Rattle.ice_check.specs.Faults.{uses_of}
 use Rattle.ice_check.specs.Tables.{once, times}
 use Rattle.ice_check_promote.specs.Promoted.{buffered, buffered_pin, buffered_first, buffered_ins, buffered_cell, buffer, buffers}

@@ -11,7 +11,7 @@ use Rattle.ice_base_values.proofs.Places.{At_take}
 use Rattle.ice_net.specs.declared.kind.CellKind.{CellKind}
 use Rattle.ice_net.specs.declared.kind.CellKind.TheVariants.{Lut, Cover, Carry, Flop, PadCell, Global}
 use Rattle.ice_net.specs.NetlistData.{NetlistData}
-use Rattle.ice_net.specs.Drives.{uses_by}
+use Rattle.ice_net.specs.Uses.{uses_by}
 use Rattle.ice_net.specs.Limits.{most_signals}
 use Rattle.ice_check.specs.Faults.{uses_of, is_used}
 use Rattle.ice_check.specs.Tables.{times}

@@ -6,7 +6,8 @@ use Rattle.std.proofs.lemmas.List.{length-map, map-append, get_or_append_left}
 use Rattle.std.proofs.lemmas.List.Elements.{All-head, All-tail}
 use Rattle.ice_base.specs.declared.number.SignalNo.{SignalNo}
 use Rattle.ice_base_values.specs.Order.{At}
-use Rattle.ice_base_values.specs.System.{reading, Simulates}
+use Rattle.ice_base_values.specs.System.{reading}
+use Rattle.ice_base_values.specs.Simulations.{Simulates}
 use Rattle.ice_base_values.proofs.Machines.{shows_always_alike}
 use Rattle.ice_net.specs.declared.cell.Cell.{Cell}
 use Rattle.ice_net.specs.declared.kind.CellKind.{CellKind}

@@ -5,7 +5,8 @@ use Rattle.std.specs.Option.{option_map_or}
 use Rattle.std.proofs.lemmas.List.{map-id}
 use Rattle.ice_base.specs.Lists.{all_known}
 use Rattle.ice_base_values.specs.Order.{At}
-use Rattle.ice_base_values.specs.System.{try_reading, filled_inputs, System, value}
+use Rattle.ice_base_values.specs.System.{filled_inputs, System, value}
+use Rattle.ice_base_values.specs.Simulations.{try_reading}
 use Rattle.ice_base_values.proofs.Gaps.{value_gapped}
 use Rattle.ice_base_values.proofs.Members.{At_within}
 use Rattle.ice_base_values.proofs.Values.{value_along}

@@ -1,6 +1,6 @@
 -- What is asked of a netlist whose clocks are promoted.
 use Rattle.std.specs.Prelude.{◌≡◌, ◌≢◌, ◌⊎◌, ℕ, ◌<◌, List, [], ◌∷◌, length, All, Option, None, Some}
-use Rattle.ice_base.specs.Text.{IsWord}
+use Rattle.ice_base.specs.Lines.{IsWord}
 use Rattle.ice_net.specs.NetlistData.{NetlistData}
 use Rattle.ice_check_promote.specs.Promoted.{buffered_name, promoted}
 use Rattle.ice_check_promote.specs.PromotionLaws.{most_cells_before}

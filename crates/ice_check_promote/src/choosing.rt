@@ -38,8 +38,8 @@ fn first_promotable(
     most: usize,
 ) -> Result<Vec<u32>, NoMemory>
     requires { AreCounts netlist.now counts.now }
-    ensures { IfOk result (λ clocks. clocks.items
-        ≡ take most (filter (is_promotable netlist.now) (range_with_len 0 (length netlist.now.names)))) }
+    ensures { IfOk result (λ clocks. clocks.items ≡ take most
+        (filter (is_promotable netlist.now) (range_with_len 0 (length netlist.now.names)))) }
 {
     let mut clocks = Vec::new(alloc);
     for signal in 0..netlist.signals() {

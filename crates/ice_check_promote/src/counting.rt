@@ -84,7 +84,8 @@ fn settled(alloc: Global, cells: &[Cell]) -> Result<Vec<Option<SignalNo>>, NoMem
 // How many flip-flops have each signal as their clock.
 #[tactic(auto, using(crate::proofs::Counted::clocks_below))]
 fn clock_counts(alloc: Global, netlist: &Netlist) -> Result<Vec<usize>, NoMemory>
-    ensures { IfOk result (λ table. AreTimes (length netlist.now.names) (map clock_of netlist.now.cells) table.items) }
+    ensures { IfOk result (λ table.
+        AreTimes (length netlist.now.names) (map clock_of netlist.now.cells) table.items) }
 {
     let list = clocks(alloc, netlist.cells())?;
     let table = times_of(alloc, netlist.signals() as usize, &list)?;
@@ -94,7 +95,8 @@ fn clock_counts(alloc: Global, netlist: &Netlist) -> Result<Vec<usize>, NoMemory
 // How many cells whose output needs no buffer drive each signal.
 #[tactic(auto, using(crate::proofs::Counted::settled_below))]
 fn settled_counts(alloc: Global, netlist: &Netlist) -> Result<Vec<usize>, NoMemory>
-    ensures { IfOk result (λ table. AreTimes (length netlist.now.names) (map settled_of netlist.now.cells) table.items) }
+    ensures { IfOk result (λ table.
+        AreTimes (length netlist.now.names) (map settled_of netlist.now.cells) table.items) }
 {
     let list = settled(alloc, netlist.cells())?;
     let table = times_of(alloc, netlist.signals() as usize, &list)?;

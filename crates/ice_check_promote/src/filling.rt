@@ -16,7 +16,8 @@ use std::alloc::Global;
 fn with_its_names(alloc: Global, netlist: &Netlist) -> Result<Netlist, NoMemory>
     requires formed { IsFormed netlist.now }
     requires once { IsDistinct bytes_eq netlist.now.names }
-    ensures { IfOk result (λ made. made ≡ record { names = netlist.now.names; ports = []; cells = [] }) }
+    ensures { IfOk result (λ made.
+        made ≡ record { names = netlist.now.names; ports = []; cells = [] }) }
 {
     let mut made = Netlist::new(alloc);
     for signal in 0..netlist.signals() {
@@ -79,9 +80,10 @@ fn add_cells(
 ) -> Result<(), NoMemory>
     requires targets { AreTargets targets.now }
     requires formed { All (IsFormedCell targets.now.count) cells.now }
-    requires room { HasRoomForCells made.old (map (buffered_cell targets.now.count targets.now.clocks.items) cells.now) }
-    ensures { OnOk result (made.new
-        ≡ with_cells made.old (map (buffered_cell targets.now.count targets.now.clocks.items) cells.now)) }
+    requires room { HasRoomForCells made.old
+        (map (buffered_cell targets.now.count targets.now.clocks.items) cells.now) }
+    ensures { OnOk result (made.new ≡ with_cells made.old
+        (map (buffered_cell targets.now.count targets.now.clocks.items) cells.now)) }
 {
     for cell in cells {
         made.cell(targets.cell(alloc, cell)?)?;
@@ -125,7 +127,8 @@ fn add_buffers(
 // The netlist with buffers for these clocks, but without cells.
 fn with_ports(alloc: Global, netlist: &Netlist, clocks: &[u32]) -> Result<Netlist, NoMemory>
     requires { CanTakeBuffers netlist.now clocks.now }
-    ensures { IfOk result (λ made. made ≡ record (with_buffers netlist.now clocks.now) { cells = [] }) }
+    ensures { IfOk result (λ made.
+        made ≡ record (with_buffers netlist.now clocks.now) { cells = [] }) }
 {
     let mut made = with_its_names(alloc, netlist)?;
     add_buffer_names(alloc, &mut made, netlist, clocks)?;

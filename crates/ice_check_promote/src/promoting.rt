@@ -17,7 +17,8 @@ fn promoted_copy(alloc: Global, sound: &Sound, free: u32) -> Result<Option<Sound
     requires { CanBePromoted sound.now }
     ensures netlist { IfOk result (IsPromotion sound.now free) }
     ensures sound { IsSound (promoted sound.now free) }
-    ensures shows { (levels : List (List Bool)) → shows (promoted sound.now free) levels ≡ shows sound.now levels }
+    ensures shows { (levels : List (List Bool))
+        → shows (promoted sound.now free) levels ≡ shows sound.now levels }
 {
     promoted_are_sound();
     promoted_show_the_same();
@@ -46,7 +47,8 @@ pub fn promote(alloc: Global, sound: Sound, free: u32) -> Result<Sound, NoMemory
     ensures netlist { IfOk result (λ made. made ≡ promoted sound free) }
     ensures sound { IsSound (promoted sound free) }
     ensures ports { IfOk result (λ made. made.ports ≡ sound.ports) }
-    ensures shows { IfOk result (λ made. (levels : List (List Bool)) → shows made levels ≡ shows sound levels) }
+    ensures shows { IfOk result (λ made.
+        (levels : List (List Bool)) → shows made levels ≡ shows sound levels) }
 {
     match promoted_copy(alloc, &sound, free)? {
         Some(made) => Ok(made),

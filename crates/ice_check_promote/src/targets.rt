@@ -82,7 +82,8 @@ impl Targets {
     fn put_first(&self, ins: &mut Vec<Option<SignalNo>>)
         requires targets { AreTargets self.now }
         requires below { All (IsBelow self.now.count) ins.old.items }
-        ensures { ins.new.items ≡ buffered_first self.now.count self.now.clocks.items ins.old.items }
+        ensures { ins.new.items
+            ≡ buffered_first self.now.count self.now.clocks.items ins.old.items }
     {
         if let Some(pin) = ins.get(0) {
             let pin = self.pin(*pin);
@@ -97,7 +98,8 @@ impl Targets {
     pub fn cell(&self, alloc: Global, cell: &Cell) -> Result<Cell, NoMemory>
         requires targets { AreTargets self.now }
         requires formed { IsFormedCell self.now.count cell.now }
-        ensures { IfOk result (λ made. made ≡ buffered_cell self.now.count self.now.clocks.items cell.now) }
+        ensures { IfOk result (λ made.
+            made ≡ buffered_cell self.now.count self.now.clocks.items cell.now) }
     {
         let mut ins = Vec::from_slice(alloc, cell.ins.as_slice())?;
         let outs = Vec::from_slice(alloc, cell.outs.as_slice())?;

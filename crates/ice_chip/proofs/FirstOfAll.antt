@@ -40,12 +40,12 @@ in_right x [] ys is = is
 in_right x (z ∷ xs) ys is = inr (in_right x xs ys is)
 
 -- where it stands
-record Stands {A : Type 0} (x : A) (xs : List A) : Type 0 where
+record StandsBetween {A : Type 0} (x : A) (xs : List A) : Type 0 where
   front : List A
   rest : List A
   is : xs ≡ front ++ x ∷ rest
 
-stands_in : {A : Type 0} (x : A) (xs : List A) → IsIn x xs → Stands x xs
+stands_in : {A : Type 0} (x : A) (xs : List A) → IsIn x xs → StandsBetween x xs
 stands_in x [] is = absurd is
 stands_in x (y ∷ ys) (inl e) = record { front = []; rest = ys; is = ap (λ z. z ∷ ys) (sym e) }
 stands_in x (y ∷ ys) (inr is) =
@@ -169,7 +169,7 @@ shared_is uses lines is = of_clash (clash_is [] uses lines is)
     of_clash : Clashes [] uses lines → AreShared uses lines
     of_clash c = placed (elim c.there [ inl there ↦ stands_in c.earlier c.front there | inr none ↦ absurd none ])
       where
-        placed : Stands c.earlier c.front → AreShared uses lines
+        placed : StandsBetween c.earlier c.front → AreShared uses lines
         placed s = record {
           front = s.front;
           one = c.earlier;

@@ -1,7 +1,8 @@
 -- The names of the functions that are read are read as these functions, and no other names are.
 use Rattle.std.proofs.Common.{◌≡◌, ℕ, ◌<◌, None, Some, List, [], ◌∷◌, ◌++◌, codes, bytes_eq, refl, sym, ap, ◌∙◌, subst, arith, option_map, IfSome}
-use Rattle.ice_chip.specs.Names.{digit, number_behind, number_or, numbered_or, cell_function, pin_type_function, input_enable_function, pull_up_function, column_buffer_function}
-use Rattle.ice_chip.specs.FunctionNames.{function_name, IsTileFunction, IsNamedFunction, FunctionNamesAreRead, pad_function, lone_function, buffer_function, enable_function, outer_function, tile_function}
+use Rattle.ice_chip.specs.Names.{digit, number_behind, cell_function, pin_type_function, input_enable_function, column_buffer_function}
+use Rattle.ice_chip.specs.NameReaders.{number_or, numbered_or}
+use Rattle.ice_chip.specs.FunctionNames.{function_name, IsTileFunction, IsNamedFunction, FunctionNamesAreRead, pad_function, lone_function, buffer_function, enable_function, outer_function, tile_function, pull_up_function}
 use Rattle.ice_chip.specs.declared.function_names.TileFunction.{TileFunction}
 use Rattle.ice_chip.specs.declared.function_names.TileFunction.TheVariants.{Cell, FallingClock, CarrySet, PinType, InputEnable, PullUp, ColumnBuffer}
 use Rattle.ice_base.proofs.Keys.{bytes_same}

@@ -1,11 +1,12 @@
 -- The numbers of the rows of a chip's groups.
 use Rattle.std.proofs.Common.{◌≡◌, ℕ, zero, suc, ◌+◌, ◌<◌, ◌≤◌, List, [], ◌∷◌, map, length, get_or, ap, ◌∙◌, arith}
 use Rattle.std.proofs.lemmas.List.{length-map, length-append}
-use Rattle.ice_chip.specs.Database.{SwitchGroup, most_rows}
+use Rattle.ice_chip.specs.Database.{SwitchGroup}
+use Rattle.ice_chip.specs.Limits.{most_rows}
 use Rattle.ice_chip.specs.IsRead.{AreNumbered}
-use Rattle.ice_chip.specs.Lookups.{rows_of, in_group}
+use Rattle.ice_chip.specs.Listings.{rows_of, in_group}
 use Rattle.ice_chip.specs.Views.{row_view, group_view}
-use Rattle.ice_chip.specs.declared.rows.Group.{Group}
+use Rattle.ice_chip.specs.declared.sections.Group.{Group}
 
 pub rows_count : (g : SwitchGroup) (gs : List SwitchGroup) → length (rows_of (g ∷ gs)) ≡ length g.rows + length (rows_of gs)
 rows_count g gs = length-append (map (in_group g) g.rows) (rows_of gs) ∙ ap (λ n. n + length (rows_of gs)) (length-map g.rows (in_group g))

@@ -7,6 +7,7 @@ mod Listing
 mod NamePlaces
 mod NamedRows
 mod Numbering
+mod Different
 mod Readers
 mod RowPlaces
 pub mod Prefixes

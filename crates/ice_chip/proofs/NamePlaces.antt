@@ -7,13 +7,14 @@ use Rattle.std.proofs.lemmas.Option.{slice_get-map, slice_get-get_or}
 use Rattle.std.proofs.lemmas.List.{drop_more, length_push}
 use Rattle.ice_chip.specs.Database.{Parts, FunctionRow, PackageRows}
 use Rattle.ice_chip.specs.Functions.{same_kind}
-use Rattle.ice_chip.specs.Lookups.{rows_of, is_function, function_of, package_of}
+use Rattle.ice_chip.specs.Lookups.{is_function, function_of, package_of}
+use Rattle.ice_chip.specs.Listings.{rows_of}
 use Rattle.ice_chip.specs.Indices.{row_at, put_first, with_first, firsts}
 use Rattle.ice_chip.specs.NamePlaces.{by_text, PlacesByKind, no_places, of_kind, put_kind, function_places, package_places}
 use Rattle.ice_chip.specs.Views.{function_view, group_view, package_view}
 use Rattle.ice_chip.specs.declared.index.RowPlace.{RowPlace}
-use Rattle.ice_chip.specs.declared.rows.Function.{Function}
-use Rattle.ice_chip.specs.declared.rows.Group.{Group}
+use Rattle.ice_chip.specs.declared.sections.Function.{Function}
+use Rattle.ice_chip.specs.declared.sections.Group.{Group}
 use Rattle.ice_chip.specs.declared.rows.TileKind.{TileKind}
 use Rattle.ice_chip.specs.declared.rows.TileKind.TheVariants.{Io, Logic, RamBottom, RamTop}
 use Rattle.ice_chip.specs.declared.parts.Package.{Package}

@@ -6,7 +6,7 @@ use Rattle.ice_chip.specs.Lookups.{is_placed, placed_wire}
 use Rattle.ice_chip.specs.Indices.{Numbered, with_named, numbered}
 use Rattle.ice_chip.specs.Views.{name_view}
 use Rattle.ice_chip.specs.declared.rows.TileLine.{TileLine}
-use Rattle.ice_chip.specs.declared.rows.NameRow.{NameRow}
+use Rattle.ice_chip.specs.declared.sections.NameRow.{NameRow}
 
 module _ (tiles : List (TileAt × TileLine)) (rows : List NameRow) where
   -- the names that are left from a row on

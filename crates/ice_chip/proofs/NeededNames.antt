@@ -1,7 +1,8 @@
 -- A kind has all functions that it needs exactly where it has one of each name that it needs.
 use Rattle.std.proofs.Common.{◌≡◌, ℕ, ◌<◌, ◌≤◌, Bool, true, false, not, List, [], ◌∷◌, ◌++◌, refl, sym, ap, ◌∙◌, true≢false, inl, inr, arith, ◌&&◌, ◌||◌, codes, bytes_eq, is_some}
 use Rattle.ice_chip.specs.Database.{FunctionRow}
-use Rattle.ice_chip.specs.Names.{digit, number_behind, cell_function, falling_clock_function, carry_set_function, pin_type_function, input_enable_function, pull_up_function, column_buffer_function}
+use Rattle.ice_chip.specs.Names.{digit, number_behind, cell_function, falling_clock_function, pin_type_function, input_enable_function, column_buffer_function}
+use Rattle.ice_chip.specs.FunctionNames.{carry_set_function, pull_up_function}
 use Rattle.ice_chip.specs.FirstLacking.{needs_buffers, is_needed}
 use Rattle.ice_chip.specs.Functions.{is_read, is_column_buffer, is_logic_cell, is_first_pin_type, is_second_pin_type, is_pad_enable}
 use Rattle.ice_chip.specs.LacksFunction.{has_function, has_each, has_needed, has_logic, has_pin_types, has_pad_enables, has_column_buffers}

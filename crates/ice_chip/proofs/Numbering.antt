@@ -125,11 +125,11 @@ abbrev pub AreKnown : List (List ℕ) → List (PlacedName × ℕ) → Type 0
 AreKnown names [] = Unit {0}
 AreKnown names (row ∷ rows) = (is_known names row.0.name ≡ true) × AreKnown names rows
 
-rows_known : (s : Numbered) (rows : List (PlacedName × ℕ)) → AreKnown (numbered s rows).texts rows
+pub rows_known : (s : Numbered) (rows : List (PlacedName × ℕ)) → AreKnown (numbered s rows).texts rows
 rows_known s [] = tt
 rows_known s (row ∷ rows) = ((later_keeps row.0.name (with_named s row) rows (text_known row.0.name s.texts)).0, rows_known (with_named s row) rows)
 
-wires_are : (s : Numbered) (rows : List (PlacedName × ℕ)) → (numbered s rows).wires ≡ firsts same_numbered s.wires (map (by_number (numbered s rows).texts) rows)
+pub wires_are : (s : Numbered) (rows : List (PlacedName × ℕ)) → (numbered s rows).wires ≡ firsts same_numbered s.wires (map (by_number (numbered s rows).texts) rows)
 wires_are s [] = refl
 wires_are s (row ∷ rows) =
     let names = (numbered (with_named s row) rows).texts in
@@ -138,7 +138,7 @@ wires_are s (row ∷ rows) =
     wires_are (with_named s row) rows
     ∙ ap (λ n. firsts same_numbered (with_first same_numbered s.wires (record { tile = row.0.tile; number = n }, row.1)) (map (by_number names) rows)) same
 
-found_is : (tile : TileAt) (name : List ℕ) (names : List (List ℕ)) (rows : List (PlacedName × ℕ)) → AreKnown names rows
+pub found_is : (tile : TileAt) (name : List ℕ) (names : List (List ℕ)) (rows : List (PlacedName × ℕ)) → AreKnown names rows
     → lookup (same_numbered (record { tile = tile; number = number_of_name names name })) (map (by_number names) rows) ≡ lookup (same_placed (placed_at tile name)) rows
 found_is tile name names [] known = refl
 found_is tile name names (row ∷ rows) known =

@@ -5,7 +5,8 @@ use Rattle.std.proofs.lemmas.Slice.Eq.{strip_prefix_is}
 use Rattle.std.proofs.lemmas.Bool.Decides.{Decides-eqb}
 use Rattle.std.specs.Cmp.Lexicographic.{pointwise}
 use Rattle.std.specs.Borrow.{Bor}
-use Rattle.ice_chip.specs.Names.{digit, number_of_digit, lone_number, leading_number, behind, number_behind, number_within, number_or, numbered_or}
+use Rattle.ice_chip.specs.Names.{digit, number_of_digit, lone_number, behind, number_behind}
+use Rattle.ice_chip.specs.NameReaders.{leading_number, number_within, number_or, numbered_or}
 use Rattle.std.proofs.lemmas.Bool.{and_parts}
 use Rattle.ice_base.proofs.Keys.{nat_same, nat_self}
 

@@ -8,14 +8,15 @@ use Rattle.std.specs.declared.alloc.Global.{Global}
 use Rattle.ice_base.specs.declared.number.TileAt.{TileAt}
 use Rattle.ice_base.specs.Lists.{number_of_name}
 use Rattle.ice_chip.specs.Database.{Parts, same_tile, same_pad}
-use Rattle.ice_chip.specs.Lookups.{in_group, placed_names, placed_wire, names_of, wire_named, global_tile, fed_pad, enable_counts, buffer_counts, served_tile, global_of, gbufpin_of, padin_of, ieren_of, colbuf_of}
+use Rattle.ice_chip.specs.Lookups.{placed_names, placed_wire, names_of, wire_named, global_tile, fed_pad, enable_counts, buffer_counts, served_tile, global_of, gbufpin_of, padin_of, ieren_of, colbuf_of}
+use Rattle.ice_chip.specs.Listings.{in_group}
 use Rattle.ice_chip.specs.Indices.{Numbered, same_numbered, numbered, lists_of, listed, firsts, row_in, row_at}
 use Rattle.ice_chip.specs.NameIndex.{no_names}
 use Rattle.ice_chip.specs.Views.{group_view, row_view}
 use Rattle.ice_chip.specs.declared.index.RowPlace.{RowPlace}
-use Rattle.ice_chip.specs.declared.rows.Group.{Group}
+use Rattle.ice_chip.specs.declared.sections.Group.{Group}
 use Rattle.ice_chip.specs.declared.rows.Pad.{Pad}
-use Rattle.ice_chip.specs.declared.rows.Row.{Row}
+use Rattle.ice_chip.specs.declared.sections.Row.{Row}
 use Rattle.ice_chip.specs.declared.placed.PlacedName.{PlacedName}
 use Rattle.ice_chip.proofs.Firsts.{lookup-firsts}
 use Rattle.ice_base.proofs.Keys.{nat_same, tile_same}

@@ -3,11 +3,11 @@ use Rattle.std.proofs.Common.{◌≡◌, ℕ, zero, suc, ◌+◌, ◌<◌, ◌�
 use Rattle.std.proofs.lemmas.Option.{slice_get-get_or}
 use Rattle.std.proofs.lemmas.List.{map-append, drop_more, take_more, take_all, length-map, at_drop_all}
 use Rattle.ice_chip.specs.Database.{SwitchGroup, SwitchRow}
-use Rattle.ice_chip.specs.Lookups.{in_group, rows_of}
+use Rattle.ice_chip.specs.Listings.{in_group, rows_of}
 use Rattle.ice_chip.specs.Indices.{row_at, places_up_to}
 use Rattle.ice_chip.specs.Views.{group_view, row_view}
 use Rattle.ice_chip.specs.declared.index.RowPlace.{RowPlace}
-use Rattle.ice_chip.specs.declared.rows.Group.{Group}
+use Rattle.ice_chip.specs.declared.sections.Group.{Group}
 
 abbrev pub place : ℕ → ℕ → RowPlace
 place group row = record { group = group; row = row }

@@ -1,7 +1,8 @@
 -- The names of the wires of a tile are read as these wires, and no other names are.
 use Rattle.std.proofs.Common.{◌≡◌, ℕ, ◌<◌, None, Some, List, [], ◌∷◌, ◌++◌, codes, bytes_eq, refl, sym, ap, ◌∙◌, subst, arith, option_map, IfSome}
-use Rattle.ice_chip.specs.Names.{digit, number_behind, number_or, numbered_or, global_name}
-use Rattle.ice_chip.specs.WireNames.{wire_name, IsTileWire, IsNamedWire, WireNamesAreRead, cell_wire, pad_wire, lone_wire, global_wire, outer_wire, tile_wire}
+use Rattle.ice_chip.specs.Names.{digit, number_behind}
+use Rattle.ice_chip.specs.NameReaders.{number_or, numbered_or}
+use Rattle.ice_chip.specs.WireNames.{wire_name, IsTileWire, IsNamedWire, WireNamesAreRead, cell_wire, pad_wire, lone_wire, global_wire, outer_wire, tile_wire, global_name}
 use Rattle.ice_chip.specs.declared.wire_names.TileWire.{TileWire}
 use Rattle.ice_chip.specs.declared.wire_names.TileWire.TheVariants.{CellInput, CellOutput, CarryOut, LookUp, Clock, ClockEnable, SetReset, CarryIn, FirstCarry, PadInput, PadOutput, OutputEnable, InputClock, OutputClock, InOutEnable, Fabout, Global}
 use Rattle.ice_base.proofs.Keys.{bytes_same}

@@ -1,7 +1,7 @@
--- A chip database as data, its limits and its places. Wires, lines and rows are numbers; names are lists of bytes.
+-- A chip database as data, and its places. Wires, lines and rows are numbers; names are lists of bytes.
 use Rattle.std.specs.Prelude.{ℕ, Bool, List, [], ◌==◌, ◌&&◌, Option}
 use Rattle.ice_base.specs.declared.number.TileAt.{TileAt}
-use Rattle.ice_base.specs.declared.number.BitAt.{BitAt}
+use Rattle.ice_base.specs.declared.bit.BitAt.{BitAt}
 use Rattle.ice_chip.specs.declared.rows.TileKind.{TileKind}
 use Rattle.ice_chip.specs.declared.rows.Pad.{Pad}
 use Rattle.ice_chip.specs.declared.rows.TileLine.{TileLine}
@@ -78,18 +78,6 @@ no_parts width height wires = record {
   ieren = [];
   colbuf = [];
 }
-
--- the columns, and the rows of places
-abbrev pub most_places : ℕ
-most_places = 256
-
--- the wires
-abbrev pub most_wires : ℕ
-most_wires = 1048576
-
--- the switch rows
-abbrev pub most_rows : ℕ
-most_rows = 16777216
 
 abbrev pub same_pad : Pad → Pad → Bool
 same_pad a b = same_tile a.tile b.tile && (a.pio == b.pio)

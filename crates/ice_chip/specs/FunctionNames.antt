@@ -1,8 +1,17 @@
 -- The names of the functions that are read: all of them, and their reader.
-use Rattle.std.specs.Prelude.{◌≡◌, ℕ, ◌<◌, Option, None, Some, List, codes, bytes_eq, option_map, IfSome, if◌then◌else◌}
-use Rattle.ice_chip.specs.Names.{number_behind, number_within, number_or, numbered_or, carry_set_function, cell_function, column_buffer_function, falling_clock_function, input_enable_function, pin_type_function, pull_up_function}
+use Rattle.std.specs.Prelude.{◌≡◌, ℕ, ◌<◌, Option, None, Some, List, codes, bytes_eq, option_map, IfSome, if◌then◌else◌, ◌+◌, [], ◌∷◌, ◌++◌}
+use Rattle.ice_chip.specs.Names.{number_behind, cell_function, column_buffer_function, falling_clock_function, input_enable_function, pin_type_function, digit}
+use Rattle.ice_chip.specs.NameReaders.{number_within, number_or, numbered_or}
 use Rattle.ice_chip.specs.declared.function_names.TileFunction.{TileFunction}
 use Rattle.ice_chip.specs.declared.function_names.TileFunction.TheVariants.{Cell, FallingClock, CarrySet, PinType, InputEnable, PullUp, ColumnBuffer}
+
+-- the carry into the first cell of a tile
+abbrev pub carry_set_function : List ℕ
+carry_set_function = codes "CarryInSet"
+
+-- `IoCtrl.REN_P`, a pad's pull-up
+abbrev pub pull_up_function : ℕ → List ℕ
+pull_up_function pio = codes "IoCtrl.REN_" ++ digit pio ∷ []
 
 -- ---- all of them
 abbrev pub function_name : TileFunction → List ℕ

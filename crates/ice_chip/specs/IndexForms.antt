@@ -1,7 +1,8 @@
 -- The maps and lists of a chip, each as what the rows of a database make of it.
 use Rattle.std.specs.Prelude.{◌≡◌, [], Some, map, filter, replicate, nat_eq}
 use Rattle.ice_chip.specs.Database.{Parts, same_tile}
-use Rattle.ice_chip.specs.Lookups.{tile_of, placed_names, placed_wire, rows_of, global_tile, fed_pad, buffer_counts, served_tile}
+use Rattle.ice_chip.specs.Lookups.{placed_names, placed_wire, global_tile, fed_pad, buffer_counts, served_tile}
+use Rattle.ice_chip.specs.Listings.{tile_of, rows_of}
 use Rattle.ice_chip.specs.Indices.{firsts, numbered, lists_of, listed, row_at, enables_of}
 use Rattle.ice_chip.specs.NameIndex.{numbered_of, no_names}
 use Rattle.ice_chip.specs.NamePlaces.{by_text, by_kind, no_places, function_places, package_places}

@@ -6,7 +6,8 @@ use Rattle.std.specs.declared.alloc.Global.{Global}
 use Rattle.ice_base.specs.Lists.{with_name, number_of_name}
 use Rattle.ice_chip.specs.Database.{Parts, WireName, SwitchGroup, SwitchRow, same_tile, same_pad}
 use Rattle.ice_chip.specs.WholeFaults.{placed}
-use Rattle.ice_chip.specs.Lookups.{in_group, enable_counts}
+use Rattle.ice_chip.specs.Lookups.{enable_counts}
+use Rattle.ice_chip.specs.Listings.{in_group}
 use Rattle.ice_chip.specs.declared.rows.Pad.{Pad}
 use Rattle.ice_chip.specs.declared.placed.PlacedName.{PlacedName}
 use Rattle.ice_chip.specs.declared.index.NumberedName.{NumberedName}

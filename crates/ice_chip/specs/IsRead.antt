@@ -2,8 +2,9 @@
 use Rattle.std.specs.Prelude.{◌≡◌, ℕ, ◌+◌, ◌<◌, ◌≤◌, List, [], ◌∷◌, length, All, None}
 use Rattle.std.specs.List.{IsDistinct}
 use Rattle.std.specs.Map.{keys_of}
-use Rattle.ice_chip.specs.Database.{Parts, SwitchGroup, most_places, most_wires, most_rows, same_tile}
-use Rattle.ice_chip.specs.Lookups.{rows_of}
+use Rattle.ice_chip.specs.Database.{Parts, SwitchGroup, same_tile}
+use Rattle.ice_chip.specs.Limits.{most_places, most_wires, most_rows}
+use Rattle.ice_chip.specs.Listings.{rows_of}
 use Rattle.ice_chip.specs.Whole.{whole_fault}
 use Rattle.ice_chip.specs.Within.{IsPlace, FeedsGlobal, PadFeedsGlobal, ArePads, ArePlaces, IsKept, is_again, IsGroup, IsPackage}
 

@@ -3,7 +3,8 @@ use Rattle.std.specs.Prelude.{ℕ, ◌==◌, ◌&&◌, ◌||◌, not, Bool, true
 use Rattle.std.specs.Map.{values_of}
 use Rattle.ice_base.specs.declared.number.TileAt.{TileAt}
 use Rattle.ice_chip.specs.Database.{Parts, FunctionRow, tile_known}
-use Rattle.ice_chip.specs.Names.{cell_function, falling_clock_function, carry_set_function, pin_type_function, input_enable_function, pull_up_function}
+use Rattle.ice_chip.specs.Names.{cell_function, falling_clock_function, pin_type_function, input_enable_function}
+use Rattle.ice_chip.specs.FunctionNames.{carry_set_function, pull_up_function}
 use Rattle.ice_chip.specs.Functions.{is_read, is_logic_cell, same_kind}
 pub use Rattle.ice_chip.specs.Functions.{has_function, has_each, has_column_buffers}
 use Rattle.ice_chip.specs.LeastLine.{least_of}

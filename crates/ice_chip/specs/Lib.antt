@@ -2,8 +2,10 @@ pub mod Answers
 pub mod BufferKinds
 pub mod ChipForm
 pub mod Database
+pub mod Limits
 pub mod PinNames
 pub mod Names
+pub mod NameReaders
 pub mod WireNames
 pub mod FunctionNames
 pub mod Functions
@@ -11,7 +13,9 @@ pub mod Indices
 pub mod IndexForms
 pub mod IsRead
 pub mod Lookups
+pub mod Listings
 pub mod NameIndex
+pub mod NamedForm
 pub mod NamePlaces
 pub mod SharedPins
 pub mod Views

@@ -1,19 +1,14 @@
 -- Where a database says a thing. Of several rows that say it the first counts.
-use Rattle.std.specs.Prelude.{ℕ, ◌==◌, ◌&&◌, Bool, true, false, Option, None, Some, List, [], ◌∷◌, ◌++◌, map, filter, find, is_some, option_map, unwrap_or, bytes_eq, nat_eq}
+use Rattle.std.specs.Prelude.{ℕ, ◌==◌, ◌&&◌, Bool, true, false, Option, None, Some, List, map, filter, find, is_some, option_map, bytes_eq, nat_eq}
 use Rattle.std.specs.Map.{lookup}
 use Rattle.ice_base.specs.declared.number.TileAt.{TileAt}
-use Rattle.ice_chip.specs.Database.{Parts, WireName, SwitchGroup, SwitchRow, PackageRows, FunctionRow, same_tile, same_pad, tile_known}
+use Rattle.ice_chip.specs.Database.{Parts, WireName, PackageRows, FunctionRow, same_tile, same_pad, tile_known}
 use Rattle.ice_chip.specs.Functions.{same_kind, has_column_buffers}
 use Rattle.ice_chip.specs.declared.rows.Pad.{Pad}
 use Rattle.ice_chip.specs.declared.rows.TileKind.{TileKind}
 use Rattle.ice_chip.specs.declared.rows.TileKind.TheVariants.{Io}
 use Rattle.ice_chip.specs.declared.rows.TileLine.{TileLine}
-use Rattle.ice_chip.specs.declared.tile.Tile.{Tile}
 use Rattle.ice_chip.specs.declared.placed.PlacedName.{PlacedName}
-
--- ---- tiles
-abbrev pub tile_of : TileAt × TileLine → Tile
-tile_of row = record { at = row.0; kind = row.1.kind }
 
 abbrev pub kind_at : Parts → TileAt → Option TileKind
 kind_at parts tile = option_map (λ known. known.kind) (tile_known parts.tiles tile)
@@ -42,14 +37,6 @@ placed_wire n = (placed n, n.wire)
 
 abbrev pub wire_named : Parts → TileAt → List ℕ → Option ℕ
 wire_named parts tile name = lookup (same_placed (placed_at tile name)) (map placed_wire (placed_names parts))
-
--- ---- switch rows, numbered over all groups
-abbrev pub in_group : SwitchGroup → SwitchRow → SwitchGroup × SwitchRow
-in_group g r = (g, r)
-
-abbrev pub rows_of : List SwitchGroup → List (SwitchGroup × SwitchRow)
-rows_of [] = []
-rows_of (g ∷ gs) = map (in_group g) g.rows ++ rows_of gs
 
 -- ---- packages
 abbrev pub package_of : Parts → List ℕ → Option PackageRows
@@ -109,8 +96,3 @@ is_function kind name f = same_kind f.kind kind && bytes_eq f.name name
 
 abbrev pub function_of : Parts → TileKind → List ℕ → Option FunctionRow
 function_of parts kind name = find (is_function kind name) parts.functions
-
--- ---- pins
--- the first pin of the package that leads to the pad; empty where none does
-abbrev pub first_pin : PackageRows → Pad → List ℕ
-first_pin bonded pad = unwrap_or (option_map (λ (pin : List ℕ × Pad). pin.0) (find (λ (pin : List ℕ × Pad). same_pad pad pin.1) bonded.pins)) []

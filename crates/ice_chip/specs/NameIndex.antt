@@ -1,6 +1,6 @@
 -- The index of names as the definitions see it.
 use Rattle.std.specs.Prelude.{[]}
-use Rattle.ice_base.specs.Lists.{texts}
+use Rattle.ice_base.specs.Keys.{texts}
 use Rattle.ice_chip.specs.Indices.{Numbered}
 use Rattle.ice_chip.specs.declared.names.NameIndex.{NameIndex}
 

@@ -1,6 +1,7 @@
--- The names of functions and wires: a maker of each, and the readers of the number in a name, which is one digit long.
-use Rattle.std.specs.Prelude.{ℕ, ◌+◌, ◌-◌, ◌%◌, ◌==◌, ◌&&◌, Option, None, Some, List, [], ◌∷◌, nat_le, nat_lt, option_map, if◌then◌else◌, Bool, is_some, codes, ◌++◌}
+-- The names of functions and wires: a maker of each, and readers of the number in a name, which is one digit long.
+use Rattle.std.specs.Prelude.{ℕ, ◌+◌, ◌-◌, ◌%◌, ◌==◌, ◌&&◌, Option, None, Some, List, [], ◌∷◌, nat_le, nat_lt, if◌then◌else◌, Bool, is_some, codes, ◌++◌, ◌||◌}
 use Rattle.std.specs.Option.{option_and_then}
+use Rattle.ice_base.specs.Text.{number_in}
 
 -- the digit of a number, and of a larger one its last digit: 48 is `0`
 abbrev pub digit : ℕ → ℕ
@@ -15,11 +16,6 @@ abbrev pub lone_number : ℕ → List ℕ → Option ℕ
 lone_number limit (d ∷ []) = number_of_digit limit d
 lone_number limit name = None
 
--- the number of the digit that a text begins with, and what stands behind it
-abbrev pub leading_number : ℕ → List ℕ → Option (ℕ × List ℕ)
-leading_number limit [] = None
-leading_number limit (d ∷ rest) = option_map (λ n. (n, rest)) (number_of_digit limit d)
-
 -- what stands behind a prefix
 abbrev pub behind : List ℕ → List ℕ → Option (List ℕ)
 behind [] name = Some name
@@ -29,19 +25,6 @@ behind (p ∷ prefix) (c ∷ name) = if c == p then behind prefix name else None
 -- the number below the limit of which a name is made: the prefix and its digit
 abbrev pub number_behind : ℕ → List ℕ → List ℕ → Option ℕ
 number_behind limit prefix name = option_and_then (lone_number limit) (behind prefix name)
-
--- the number below the limit with whose digit a name goes on behind the prefix, and what stands behind the digit
-abbrev pub number_within : ℕ → List ℕ → List ℕ → Option (ℕ × List ℕ)
-number_within limit prefix name = option_and_then (leading_number limit) (behind prefix name)
-
--- ---- readers in a row: the first that knows the name
-abbrev pub number_or : {A : Type 0} → (ℕ → A) → Option ℕ → Option A → Option A
-number_or meaning None other = other
-number_or meaning (Some n) other = Some (meaning n)
-
-abbrev pub numbered_or : {A : Type 0} → (ℕ → List ℕ → Option A) → Option (ℕ × List ℕ) → Option A → Option A
-numbered_or meaning None other = other
-numbered_or meaning (Some found) other = meaning found.0 found.1
 
 -- the name of a global in a tile, `glb_netwk_N`
 abbrev pub is_global_name : List ℕ → Bool
@@ -57,33 +40,6 @@ cell_pin other = []
 -- `lutff_I/in_J`
 abbrev pub input_name : ℕ → ℕ → List ℕ
 input_name cell input = codes "lutff_" ++ digit cell ∷ (codes "/in_" ++ digit input ∷ [])
-
--- `lutff_I/out`, `lutff_I/cout` and `lutff_I/lout`
-abbrev pub output_name : ℕ → List ℕ
-output_name cell = codes "lutff_" ++ digit cell ∷ codes "/out"
-
-abbrev pub carry_out_name : ℕ → List ℕ
-carry_out_name cell = codes "lutff_" ++ digit cell ∷ codes "/cout"
-
-abbrev pub look_up_name : ℕ → List ℕ
-look_up_name cell = codes "lutff_" ++ digit cell ∷ codes "/lout"
-
--- what all cells of a tile share
-abbrev pub clock_name : List ℕ
-clock_name = codes "lutff_global/clk"
-
-abbrev pub clock_enable_name : List ℕ
-clock_enable_name = codes "lutff_global/cen"
-
-abbrev pub set_reset_name : List ℕ
-set_reset_name = codes "lutff_global/s_r"
-
--- the carry out of the tile below, and the carry into the first cell
-abbrev pub carry_in_name : List ℕ
-carry_in_name = codes "carry_in"
-
-abbrev pub first_carry_name : List ℕ
-first_carry_name = codes "carry_in_mux"
 
 -- ---- pads
 -- `io_P/D_IN_0`, `io_P/D_OUT_0` and `io_P/OUT_ENB`
@@ -107,38 +63,33 @@ output_clock_name = codes "io_global/outclk"
 abbrev pub in_out_enable_name : List ℕ
 in_out_enable_name = codes "io_global/cen"
 
--- ---- globals
--- what feeds a global from an IO tile
-abbrev pub fabout_name : List ℕ
-fabout_name = codes "fabout"
-
--- `glb_netwk_N`
-abbrev pub global_name : ℕ → List ℕ
-global_name n = codes "glb_netwk_" ++ digit n ∷ []
-
 -- ---- functions
 -- `LC_I`, the 20 bits of a cell
 abbrev pub cell_function : ℕ → List ℕ
 cell_function cell = codes "LC_" ++ digit cell ∷ []
 
--- the clock's edge, and the carry into the first cell
+-- the clock's edge
 abbrev pub falling_clock_function : List ℕ
 falling_clock_function = codes "NegClk"
-
-abbrev pub carry_set_function : List ℕ
-carry_set_function = codes "CarryInSet"
 
 -- `IOB_P.PINTYPE_K`, a digit of a pad's pin type
 abbrev pub pin_type_function : ℕ → ℕ → List ℕ
 pin_type_function pio place = codes "IOB_" ++ digit pio ∷ (codes ".PINTYPE_" ++ digit place ∷ [])
 
--- `IoCtrl.IE_P` and `IoCtrl.REN_P`, a pad's input enable and pull-up
+-- `IoCtrl.IE_P`, a pad's input enable
 abbrev pub input_enable_function : ℕ → List ℕ
 input_enable_function pio = codes "IoCtrl.IE_" ++ digit pio ∷ []
-
-abbrev pub pull_up_function : ℕ → List ℕ
-pull_up_function pio = codes "IoCtrl.REN_" ++ digit pio ∷ []
 
 -- `ColBufCtrl.glb_netwk_N`, the column buffer of a global
 abbrev pub column_buffer_function : ℕ → List ℕ
 column_buffer_function n = codes "ColBufCtrl.glb_netwk_" ++ digit n ∷ []
+
+-- ---- pads that feed globals
+-- the number behind a dot, 46, or an underscore, 95
+abbrev pub separated_number : List ℕ → Option ℕ
+separated_number [] = None
+separated_number (separator ∷ digits) = if (separator == 46) || (separator == 95) then number_in digits else None
+
+-- the number of the global that `padin_glb_netwk.N` or `padin_glb_netwk_N` names
+abbrev pub padin_global : List ℕ → Option ℕ
+padin_global name = option_and_then separated_number (behind (codes "padin_glb_netwk") name)

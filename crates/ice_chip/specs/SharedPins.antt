@@ -9,7 +9,7 @@ use Rattle.ice_chip.specs.PinNames.{is_input_name, is_output_name}
 use Rattle.ice_chip.specs.WholeFaults.{placed, unless_clash}
 use Rattle.ice_chip.specs.declared.rows.TileLine.{TileLine}
 use Rattle.ice_chip.specs.declared.placed.PlacedName.{PlacedName}
-use Rattle.ice_chip.specs.declared.placed.PinLine.{PinLine}
+use Rattle.ice_chip.specs.declared.name_lines.PinLine.{PinLine}
 
 -- an input or output name of the tile at its place; where no tile stands, a name has no effect
 abbrev pub is_pin : Option TileLine → List ℕ → Bool

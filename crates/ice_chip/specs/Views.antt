@@ -1,10 +1,10 @@
 -- The rows of a chip database as the definitions see them.
 use Rattle.std.specs.Prelude.{map}
 use Rattle.ice_chip.specs.Database.{FunctionRow, WireName, SwitchRow, SwitchGroup, PackageRows, Parts}
-use Rattle.ice_chip.specs.declared.rows.Function.{Function}
-use Rattle.ice_chip.specs.declared.rows.NameRow.{NameRow}
-use Rattle.ice_chip.specs.declared.rows.Row.{Row}
-use Rattle.ice_chip.specs.declared.rows.Group.{Group}
+use Rattle.ice_chip.specs.declared.sections.Function.{Function}
+use Rattle.ice_chip.specs.declared.sections.NameRow.{NameRow}
+use Rattle.ice_chip.specs.declared.sections.Row.{Row}
+use Rattle.ice_chip.specs.declared.sections.Group.{Group}
 use Rattle.ice_chip.specs.declared.parts.Package.{Package}
 use Rattle.ice_chip.specs.declared.parts.ChipParts.{ChipParts}
 

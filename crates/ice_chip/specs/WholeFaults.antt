@@ -2,12 +2,12 @@
 use Rattle.std.specs.Prelude.{ℕ, ◌==◌, Bool, true, false, Option, None, Some, List, [], ◌∷◌, ◌++◌, nat_lt, if◌then◌else◌, Result, Ok, Err}
 use Rattle.std.specs.Map.{lookup}
 use Rattle.ice_base.specs.declared.number.TileAt.{TileAt}
-use Rattle.ice_base.specs.declared.number.BitAt.{BitAt}
+use Rattle.ice_base.specs.declared.bit.BitAt.{BitAt}
 use Rattle.ice_chip.specs.Database.{SwitchGroup, WireName, columns, tile_known}
 pub use Rattle.ice_chip.specs.Lookups.{placed, same_placed}
 use Rattle.ice_chip.specs.declared.rows.TileLine.{TileLine}
 use Rattle.ice_chip.specs.declared.placed.PlacedName.{PlacedName}
-use Rattle.ice_chip.specs.declared.placed.WireLine.{WireLine}
+use Rattle.ice_chip.specs.declared.name_lines.WireLine.{WireLine}
 
 -- ---- a group at a place without a tile
 abbrev pub lacks_tile : Option TileLine → Bool

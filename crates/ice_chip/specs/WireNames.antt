@@ -1,8 +1,46 @@
--- The names of the wires of cells and pads, and of globals, in a tile: all of them, and their reader.
-use Rattle.std.specs.Prelude.{◌≡◌, ℕ, ◌<◌, Option, None, Some, List, codes, bytes_eq, option_map, IfSome, if◌then◌else◌}
-use Rattle.ice_chip.specs.Names.{number_behind, number_within, number_or, numbered_or, carry_in_name, carry_out_name, clock_enable_name, clock_name, fabout_name, first_carry_name, global_name, in_out_enable_name, input_clock_name, input_name, look_up_name, output_clock_name, output_enable_name, output_name, pad_input_name, pad_output_name, set_reset_name}
+-- The names of the wires of cells and pads, and of globals, in a tile: makers of some, all of them, and their reader.
+use Rattle.std.specs.Prelude.{◌≡◌, ℕ, ◌<◌, Option, None, Some, List, codes, bytes_eq, option_map, IfSome, if◌then◌else◌, ◌+◌, [], ◌∷◌, ◌++◌}
+use Rattle.ice_chip.specs.Names.{number_behind, in_out_enable_name, input_clock_name, input_name, output_clock_name, output_enable_name, pad_input_name, pad_output_name, digit}
+use Rattle.ice_chip.specs.NameReaders.{number_within, number_or, numbered_or}
 use Rattle.ice_chip.specs.declared.wire_names.TileWire.{TileWire}
 use Rattle.ice_chip.specs.declared.wire_names.TileWire.TheVariants.{CellInput, CellOutput, CarryOut, LookUp, Clock, ClockEnable, SetReset, CarryIn, FirstCarry, PadInput, PadOutput, OutputEnable, InputClock, OutputClock, InOutEnable, Fabout, Global}
+
+-- ---- cells
+-- `lutff_I/out`, `lutff_I/cout` and `lutff_I/lout`
+abbrev pub output_name : ℕ → List ℕ
+output_name cell = codes "lutff_" ++ digit cell ∷ codes "/out"
+
+abbrev pub carry_out_name : ℕ → List ℕ
+carry_out_name cell = codes "lutff_" ++ digit cell ∷ codes "/cout"
+
+abbrev pub look_up_name : ℕ → List ℕ
+look_up_name cell = codes "lutff_" ++ digit cell ∷ codes "/lout"
+
+-- what all cells of a tile share
+abbrev pub clock_name : List ℕ
+clock_name = codes "lutff_global/clk"
+
+abbrev pub clock_enable_name : List ℕ
+clock_enable_name = codes "lutff_global/cen"
+
+abbrev pub set_reset_name : List ℕ
+set_reset_name = codes "lutff_global/s_r"
+
+-- the carry out of the tile below, and the carry into the first cell
+abbrev pub carry_in_name : List ℕ
+carry_in_name = codes "carry_in"
+
+abbrev pub first_carry_name : List ℕ
+first_carry_name = codes "carry_in_mux"
+
+-- ---- globals
+-- what feeds a global from an IO tile
+abbrev pub fabout_name : List ℕ
+fabout_name = codes "fabout"
+
+-- `glb_netwk_N`
+abbrev pub global_name : ℕ → List ℕ
+global_name n = codes "glb_netwk_" ++ digit n ∷ []
 
 -- ---- all of them
 abbrev pub wire_name : TileWire → List ℕ

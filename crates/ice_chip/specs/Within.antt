@@ -4,7 +4,7 @@ use Rattle.std.specs.List.{IsDistinct}
 use Rattle.std.specs.Map.{keys_of}
 use Rattle.indexmap.specs.IndexSet.{insert_all}
 use Rattle.ice_base.specs.declared.number.TileAt.{TileAt}
-use Rattle.ice_base.specs.declared.number.BitAt.{BitAt}
+use Rattle.ice_base.specs.declared.bit.BitAt.{BitAt}
 use Rattle.ice_chip.specs.Database.{FunctionRow, SwitchGroup, PackageRows, same_pad, columns}
 use Rattle.ice_chip.specs.Functions.{is_read, is_foreign, same_kind}
 use Rattle.ice_chip.specs.declared.rows.Pad.{Pad}

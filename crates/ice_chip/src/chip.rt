@@ -3,15 +3,20 @@ ghost use Rattle.std.specs.Prelude.{◌≡◌, ◌<◌, None, Some, IsSome, IfOk
 ghost use Rattle.std.specs.Map.{lookup};
 ghost use Rattle.ice_chip.specs.IsRead.{IsRead, IsChip};
 ghost use Rattle.ice_chip.specs.Whole.{whole_fault};
-ghost use Rattle.ice_chip.specs.Indices.{row_at, enables_of};
+ghost use Rattle.ice_chip.specs.Indices.{row_at, enables_of, numbered};
 ghost use Rattle.ice_chip.specs.Database.{same_pad};
-ghost use Rattle.ice_chip.specs.Lookups.{tile_of, kind_at, names_of, wire_named, rows_of, package_of, global_of, gbufpin_of, padin_of, ieren_of, colbuf_of, function_of};
+ghost use Rattle.ice_chip.specs.Lookups.{kind_at, names_of, wire_named, package_of, global_of, gbufpin_of, padin_of, ieren_of, colbuf_of, function_of, placed_names, placed_wire};
+ghost use Rattle.ice_chip.specs.Listings.{tile_of, rows_of};
+ghost use Rattle.ice_chip.specs.NameIndex.{numbered_of, no_names};
 ghost use Rattle.ice_chip.specs.Views.{function_view, row_view, group_view, package_view, parts_view};
 
 use crate::index::RowPlace;
 use crate::indices::{PlaceIndex, ServerIndex, WireIndex};
 use crate::name_places::place_of;
-use crate::{ChipParts, Function, Group, Package, Pad, PlacedName, Row, Tile, TileKind};
+use crate::names::NameIndex;
+use crate::{
+    ChipParts, Function, Group, NamedParts, Package, Pad, PlacedName, Row, Tile, TileKind,
+};
 use ice_base::{NoMemory, RowNo, TileAt, WireNo, both};
 use indexmap::IndexMap;
 use std::alloc::Global;
@@ -43,13 +48,15 @@ impl Model for Chip {
 }
 
 impl Chip {
-    /// The chip of rows that have no fault, neither in a line of theirs nor as a whole. It fails for want of memory alone.
-    pub fn new(alloc: Global, parts: ChipParts) -> Result<Chip, NoMemory>
+    // The chip of these rows, with the index of their names.
+    fn indexed(alloc: Global, parts: ChipParts, names: NameIndex) -> Result<Chip, NoMemory>
+        requires named { numbered_of names
+            ≡ numbered no_names (map placed_wire (placed_names (parts_view parts))) }
         requires read { IsRead (parts_view parts) }
         requires faultless { whole_fault (parts_view parts) ≡ None }
         ensures { IfOk result (λ chip. chip ≡ parts_view parts) }
     {
-        let wires = WireIndex::new(alloc, &parts);
+        let wires = WireIndex::new(alloc, &parts, names);
         let servers = both(wires, ServerIndex::new(alloc, &parts));
         let Ok(((wires, servers), places)) = both(servers, PlaceIndex::new(alloc, &parts)) else {
             drop(parts);
@@ -61,6 +68,16 @@ impl Chip {
             servers,
             places,
         })
+    }
+
+    /// The chip of rows that have no fault, neither in a line of theirs nor as a whole. It fails for want of memory alone.
+    pub fn new(alloc: Global, named: NamedParts) -> Result<Chip, NoMemory>
+        requires read { IsRead named }
+        requires faultless { whole_fault named ≡ None }
+        ensures { IfOk result (λ chip. chip ≡ named) }
+    {
+        let (parts, names) = named.into_parts();
+        Chip::indexed(alloc, parts, names)
     }
 
     /// The tiles in the order of the text.
@@ -111,7 +128,8 @@ impl Chip {
     #[tactic(auto, using(crate::proofs::Readers::place_within, crate::proofs::Readers::place_found))]
     pub fn row(&self, row: RowNo) -> (&Group, &Row)
         requires { row.0 < length (rows_of self.now.groups) }
-        ensures { slice_get (rows_of self.now.groups) row.0 ≡ Some (group_view result.0.now, row_view result.1.now) }
+        ensures { slice_get (rows_of self.now.groups) row.0
+            ≡ Some (group_view result.0.now, row_view result.1.now) }
     {
         row_in(&self.parts.groups, self.places.rows[row.0 as usize])
     }
@@ -160,7 +178,8 @@ impl Chip {
     /// order of the text. Of the rows of one pad the first counts, as in `ieren_of`.
     pub fn enables(&self) -> &IndexMap<Pad, Pad>
         ensures enables { result.now.entries ≡ enables_of self.now }
-        ensures found { (pad : Pad) → lookup (same_pad pad) result.now.entries ≡ ieren_of self.now pad }
+        ensures found { (pad : Pad)
+            → lookup (same_pad pad) result.now.entries ≡ ieren_of self.now pad }
     {
         &self.servers.enables
     }
@@ -175,7 +194,8 @@ impl Chip {
 
     /// The first function of the kind and name, or None exactly where there is none.
     pub fn function(&self, kind: TileKind, name: &[u8]) -> Option<&Function>
-        ensures { option_map (λ f. function_view f.now) result ≡ function_of self.now kind name.now }
+        ensures { option_map (λ f. function_view f.now) result
+            ≡ function_of self.now kind name.now }
     {
         let place = self.places.functions.find(kind, name)?;
         self.parts.functions.get(place)
@@ -209,7 +229,8 @@ impl Chip {
 #[tactic(auto, using(crate::proofs::Readers::group_within, crate::proofs::Readers::row_within, crate::proofs::Readers::row_is))]
 fn row_in(groups: &[Group], place: RowPlace) -> (&Group, &Row)
     requires { IsSome (row_at (map group_view groups.now) place) }
-    ensures { row_at (map group_view groups.now) place ≡ Some (group_view result.0.now, row_view result.1.now) }
+    ensures { row_at (map group_view groups.now) place
+        ≡ Some (group_view result.0.now, row_view result.1.now) }
 {
     let group = &groups[place.group];
     (group, &group.rows[place.row])

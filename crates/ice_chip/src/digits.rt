@@ -1,6 +1,7 @@
 //! Names with a number in them, which is one digit long.
 ghost use Rattle.std.specs.Prelude.{◌≡◌, option_map};
-ghost use Rattle.ice_chip.specs.Names.{digit, number_of_digit, behind, lone_number, number_behind, leading_number, number_within};
+ghost use Rattle.ice_chip.specs.Names.{digit, number_of_digit, behind, lone_number, number_behind};
+ghost use Rattle.ice_chip.specs.NameReaders.{leading_number, number_within};
 
 /// The digit of a number, and of a larger one its last digit.
 pub fn digit(number: u8) -> u8
@@ -63,7 +64,8 @@ pub fn number_behind(limit: u8, prefix: &[u8], name: &[u8]) -> Option<u8>
 /// The number below the limit with whose digit a name goes on behind a prefix, and what stands behind the digit; None
 /// exactly where it does not go on so.
 pub fn number_within<'a>(limit: u8, prefix: &[u8], name: &'a [u8]) -> Option<(u8, &'a [u8])>
-    ensures { option_map (λ found. (found.0, found.1.now)) result ≡ number_within limit prefix.now name.now }
+    ensures { option_map (λ found. (found.0, found.1.now)) result
+        ≡ number_within limit prefix.now name.now }
 {
     match behind(prefix, name) {
         Some(rest) => leading_number(limit, rest),

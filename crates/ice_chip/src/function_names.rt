@@ -1,8 +1,8 @@
 //! The names of the functions that are read. Numbers in them are one digit long: a maker takes the last digit of its number,
 //! and the reader takes no name whose number a tile doesn't have.
 ghost use Rattle.std.specs.Prelude.{◌≡◌};
-ghost use Rattle.ice_chip.specs.FunctionNames.{pad_function, lone_function, tile_function, FunctionNamesAreRead};
-ghost use Rattle.ice_chip.specs.Names.{cell_function, falling_clock_function, carry_set_function, pin_type_function, input_enable_function, pull_up_function, column_buffer_function};
+ghost use Rattle.ice_chip.specs.FunctionNames.{pad_function, lone_function, tile_function, FunctionNamesAreRead, carry_set_function, pull_up_function};
+ghost use Rattle.ice_chip.specs.Names.{cell_function, falling_clock_function, pin_type_function, input_enable_function, column_buffer_function};
 
 use crate::digits::{digit, number_behind, number_within};
 

@@ -1,7 +1,8 @@
 //! The maps and lists by which a chip answers at once.
 ghost use Rattle.std.specs.Prelude.{◌≡◌, [], map, filter, IfOk, OnOk, nat_eq};
 ghost use Rattle.ice_chip.specs.Database.{same_tile, tile_known};
-ghost use Rattle.ice_chip.specs.Lookups.{tile_of, global_tile, fed_pad, is_io, holds_buffers, buffer_counts, served_tile};
+ghost use Rattle.ice_chip.specs.Lookups.{global_tile, fed_pad, is_io, holds_buffers, buffer_counts, served_tile};
+ghost use Rattle.ice_chip.specs.Listings.{tile_of};
 ghost use Rattle.ice_chip.specs.Indices.{with_first, firsts, enables_of};
 ghost use Rattle.ice_chip.specs.Views.{function_view, parts_view};
 ghost use Rattle.ice_chip.specs.BufferKinds.{IsOfKinds};
@@ -60,7 +61,8 @@ pub fn tiles(alloc: Global, parts: &ChipParts) -> Result<Vec<Tile>, NoMemory>
 
 /// The tile whose `fabout` feeds each global.
 pub fn feeding_tiles(alloc: Global, parts: &ChipParts) -> Result<IndexMap<u8, TileAt>, NoMemory>
-    ensures { IfOk result (λ tiles. tiles.entries ≡ firsts nat_eq [] (map global_tile (parts_view parts.now).gbufin)) }
+    ensures { IfOk result (λ tiles.
+        tiles.entries ≡ firsts nat_eq [] (map global_tile (parts_view parts.now).gbufin)) }
 {
     let mut tiles = IndexMap::new(alloc);
     for row in &parts.gbufin {
@@ -71,7 +73,8 @@ pub fn feeding_tiles(alloc: Global, parts: &ChipParts) -> Result<IndexMap<u8, Ti
 
 /// The pad that can feed each global.
 pub fn global_pads(alloc: Global, parts: &ChipParts) -> Result<IndexMap<u8, Pad>, NoMemory>
-    ensures { IfOk result (λ pads. pads.entries ≡ firsts nat_eq [] (map fed_pad (parts_view parts.now).gbufpin)) }
+    ensures { IfOk result (λ pads.
+        pads.entries ≡ firsts nat_eq [] (map fed_pad (parts_view parts.now).gbufpin)) }
 {
     let mut pads = IndexMap::new(alloc);
     for row in &parts.gbufpin {
@@ -85,7 +88,8 @@ pub fn global_extras(
     alloc: Global,
     parts: &ChipParts,
 ) -> Result<IndexMap<u8, (u32, u32, u32)>, NoMemory>
-    ensures { IfOk result (λ extras. extras.entries ≡ firsts nat_eq [] (parts_view parts.now).padin) }
+    ensures { IfOk result (λ extras.
+        extras.entries ≡ firsts nat_eq [] (parts_view parts.now).padin) }
 {
     let mut extras = IndexMap::new(alloc);
     for row in &parts.padin {
@@ -162,8 +166,9 @@ pub fn column_buffers(
     alloc: Global,
     parts: &ChipParts,
 ) -> Result<IndexMap<TileAt, TileAt>, NoMemory>
-    ensures { IfOk result (λ buffers. buffers.entries
-        ≡ firsts same_tile [] (map served_tile (filter (buffer_counts (parts_view parts.now).tiles (parts_view parts.now).functions) (parts_view parts.now).colbuf))) }
+    ensures { IfOk result (λ buffers. buffers.entries ≡ firsts same_tile [] (map served_tile
+        (filter (buffer_counts (parts_view parts.now).tiles (parts_view parts.now).functions)
+        (parts_view parts.now).colbuf))) }
 {
     let kinds = BufferKinds::new(&parts.functions);
     let mut buffers = IndexMap::new(alloc);

@@ -1,5 +1,8 @@
 //! The maps and lists by which a chip answers at once, in three groups.
-ghost use Rattle.std.specs.Prelude.{◌<◌, All, IfOk};
+ghost use Rattle.std.specs.Prelude.{◌≡◌, ◌<◌, All, IfOk, map};
+ghost use Rattle.ice_chip.specs.Indices.{numbered};
+ghost use Rattle.ice_chip.specs.Lookups.{placed_names, placed_wire};
+ghost use Rattle.ice_chip.specs.NameIndex.{numbered_of, no_names};
 ghost use Rattle.ice_chip.specs.IndexForms.{IsWireIndex, IsGlobalIndex, IsServerIndex, IsPlaceIndex};
 ghost use Rattle.ice_chip.specs.Views.{parts_view};
 
@@ -60,13 +63,14 @@ pub struct PlaceIndex {
 }
 
 impl WireIndex {
-    /// The tiles and wires of these rows.
-    pub fn new(alloc: Global, parts: &ChipParts) -> Result<WireIndex, NoMemory>
-        requires { All (λ n. n.wire < parts.now.wires) (parts_view parts.now).names }
+    /// The tiles and wires of these rows, with the index of their names.
+    pub fn new(alloc: Global, parts: &ChipParts, names: NameIndex) -> Result<WireIndex, NoMemory>
+        requires named { numbered_of names
+            ≡ numbered no_names (map placed_wire (placed_names (parts_view parts.now))) }
+        requires wires { All (λ n. n.wire < parts.now.wires) (parts_view parts.now).names }
         ensures { IfOk result (IsWireIndex (parts_view parts.now)) }
     {
-        let lists = both(tiles(alloc, parts), names_by_wire(alloc, parts));
-        let ((tiles, lists), names) = both(lists, NameIndex::new(alloc, parts))?;
+        let (tiles, lists) = both(tiles(alloc, parts), names_by_wire(alloc, parts))?;
         Ok(WireIndex {
             tiles,
             lists,

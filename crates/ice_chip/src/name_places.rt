@@ -108,7 +108,8 @@ pub fn places_of_packages(
     alloc: Global,
     packages: &[Package],
 ) -> Result<IndexMap<Vec<u8>, usize>, NoMemory>
-    ensures { IfOk result (λ places. by_text places.entries ≡ package_places [] 0 (map package_view packages.now)) }
+    ensures { IfOk result (λ places.
+        by_text places.entries ≡ package_places [] 0 (map package_view packages.now)) }
 {
     let mut places = IndexMap::new(alloc);
     for (place, package) in packages.iter().enumerate() {

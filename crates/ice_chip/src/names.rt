@@ -4,7 +4,8 @@ ghost use Rattle.std.specs.Map.{lookup};
 ghost use Rattle.ice_chip.specs.Database.{tile_known};
 ghost use Rattle.ice_chip.specs.Lookups.{is_placed, placed_names, placed_wire};
 ghost use Rattle.ice_chip.specs.Indices.{with_first, same_numbered, with_named, numbered};
-ghost use Rattle.ice_base.specs.Lists.{texts, with_name, number_of_name};
+ghost use Rattle.ice_base.specs.Lists.{with_name, number_of_name};
+ghost use Rattle.ice_base.specs.Keys.{texts};
 ghost use Rattle.ice_chip.specs.NameIndex.{numbered_of, no_names};
 ghost use Rattle.ice_chip.specs.Views.{name_view, parts_view};
 
@@ -27,7 +28,8 @@ pub struct NameIndex {
 #[tactic(auto, using(ice_base::proofs::NameLists::found_names))]
 fn number_of(alloc: Global, names: &mut IndexSet<Vec<u8>>, name: &[u8]) -> Result<usize, NoMemory>
     ensures number { IfOk result (λ n. n ≡ number_of_name (texts names.old.keys) name.now) }
-    ensures appended { OnOk result (texts names.new.keys ≡ with_name (texts names.old.keys) name.now) }
+    ensures appended { OnOk result
+        (texts names.new.keys ≡ with_name (texts names.old.keys) name.now) }
 {
     if let Some(number) = names.get_index_of(name) {
         return Ok(number);
@@ -61,8 +63,8 @@ fn note_wire(alloc: Global, names: &mut NameIndex, row: &NameRow) -> Result<(), 
 impl NameIndex {
     // Notes the names of these rows at places with a tile, in order.
     fn note_all(&mut self, alloc: Global, parts: &ChipParts) -> Result<(), NoMemory>
-        ensures { OnOk result (numbered_of self.new
-            ≡ numbered (numbered_of self.old) (map placed_wire (placed_names (parts_view parts.now)))) }
+        ensures { OnOk result (numbered_of self.new ≡ numbered (numbered_of self.old)
+            (map placed_wire (placed_names (parts_view parts.now)))) }
     {
         for row in &parts.names {
             if parts.tile_at(row.tile).is_some() {
@@ -85,8 +87,10 @@ impl NameIndex {
 
     /// The wire that has the name at the place.
     pub fn wire(&self, tile: TileAt, name: &[u8]) -> Option<u32>
-        ensures { result
-            ≡ lookup (same_numbered (record { tile = tile; number = number_of_name (numbered_of self.now).texts name.now })) (numbered_of self.now).wires }
+        ensures { result ≡ lookup
+            (same_numbered
+            (record { tile = tile; number = number_of_name (numbered_of self.now).texts name.now }))
+            (numbered_of self.now).wires }
     {
         let number = number_sought(&self.texts, name);
         self.wires.get(&NumberedName { tile, number }).copied()

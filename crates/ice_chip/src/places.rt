@@ -1,6 +1,6 @@
 //! Where the switch rows stand.
 ghost use Rattle.std.specs.Prelude.{◌≡◌, ◌++◌, map, Some, IfOk, OnOk};
-ghost use Rattle.ice_chip.specs.Lookups.{rows_of};
+ghost use Rattle.ice_chip.specs.Listings.{rows_of};
 ghost use Rattle.ice_chip.specs.Indices.{row_at, places_up_to};
 ghost use Rattle.ice_chip.specs.Views.{group_view};
 

@@ -1,8 +1,8 @@
 //! The names of the wires of cells and pads, and of globals, in a tile. Numbers in them are one digit long: a maker takes
 //! the last digit of its number, and the reader takes no name whose number the tile doesn't have.
 ghost use Rattle.std.specs.Prelude.{◌≡◌};
-ghost use Rattle.ice_chip.specs.WireNames.{cell_wire, pad_wire, lone_wire, tile_wire, WireNamesAreRead};
-ghost use Rattle.ice_chip.specs.Names.{input_name, output_name, carry_out_name, look_up_name, clock_name, clock_enable_name, set_reset_name, carry_in_name, first_carry_name, pad_input_name, pad_output_name, output_enable_name, input_clock_name, output_clock_name, in_out_enable_name, fabout_name, global_name};
+ghost use Rattle.ice_chip.specs.WireNames.{cell_wire, pad_wire, lone_wire, tile_wire, WireNamesAreRead, output_name, carry_out_name, look_up_name, clock_name, clock_enable_name, set_reset_name, carry_in_name, first_carry_name, fabout_name, global_name};
+ghost use Rattle.ice_chip.specs.Names.{input_name, pad_input_name, pad_output_name, output_enable_name, input_clock_name, output_clock_name, in_out_enable_name};
 ghost use Rattle.ice_chip.specs.FirstBytes.{may_be_wire};
 
 use crate::digits::{digit, number_behind, number_within};

@@ -7,7 +7,7 @@ use Rattle.ice_chip_build.specs.PlacedTexts.{placed_text, by_placed}
 use Rattle.ice_chip.specs.WholeFaults.{same_placed, with_placed, clash_or}
 use Rattle.ice_chip_build.specs.declared.named.PlacedText.{PlacedText}
 use Rattle.ice_chip.specs.declared.placed.PlacedName.{PlacedName}
-use Rattle.ice_chip.specs.declared.placed.WireLine.{WireLine}
+use Rattle.ice_chip.specs.declared.name_lines.WireLine.{WireLine}
 
 -- the test of two names at places where they lie
 abbrev pub same_text : PlacedText → PlacedText → Bool

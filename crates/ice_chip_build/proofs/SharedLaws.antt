@@ -7,7 +7,7 @@ use Rattle.std.specs.List.{flat_map}
 use Rattle.std.specs.Map.{lookup}
 use Rattle.indexmap.specs.IndexMap.{insert_entry}
 use Rattle.ice_base.specs.declared.number.TileAt.{TileAt}
-use Rattle.ice_base.specs.declared.number.BitAt.{BitAt}
+use Rattle.ice_base.specs.declared.bit.BitAt.{BitAt}
 use Rattle.ice_chip_build.specs.BitsUsed.{BitsUsed, none_used, with_line, with_clash, with_use, with_uses, with_functions, with_groups, with_others, groups_shared}
 use Rattle.ice_chip.specs.Database.{Parts, FunctionRow, SwitchGroup, tile_known}
 use Rattle.ice_chip.specs.Functions.{same_kind}

@@ -8,8 +8,8 @@ use Rattle.ice_chip.specs.SharedPins.{with_pin_name, shared_from}
 use Rattle.ice_chip.specs.Views.{name_view}
 use Rattle.ice_chip.specs.WholeFaults.{clash_or, unless_clash}
 use Rattle.ice_chip.specs.declared.rows.TileLine.{TileLine}
-use Rattle.ice_chip.specs.declared.placed.PinLine.{PinLine}
-use Rattle.ice_chip.specs.declared.rows.NameRow.{NameRow}
+use Rattle.ice_chip.specs.declared.name_lines.PinLine.{PinLine}
+use Rattle.ice_chip.specs.declared.sections.NameRow.{NameRow}
 
 pub pin_passed : (tiles : List (TileAt × TileLine)) (seen more : List (ℕ × PinLine)) (names : List NameRow) (i : ℕ) (d : NameRow) (lines : Option (ℕ × ℕ)) → i < length names
     → with_pin_name (tile_known tiles (get_or names i d).tile) seen (name_view (get_or names i d)) ≡ clash_or lines more → is_some lines ≡ false

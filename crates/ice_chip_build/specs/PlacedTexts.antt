@@ -2,7 +2,7 @@
 use Rattle.std.specs.Prelude.{List, map}
 use Rattle.ice_chip.specs.declared.placed.PlacedName.{PlacedName}
 use Rattle.ice_chip_build.specs.declared.named.PlacedText.{PlacedText}
-use Rattle.ice_chip.specs.declared.placed.WireLine.{WireLine}
+use Rattle.ice_chip.specs.declared.name_lines.WireLine.{WireLine}
 
 abbrev pub placed_text : PlacedText → PlacedName
 placed_text placed = record { tile = placed.tile; name = placed.text.now }

@@ -3,10 +3,24 @@ ghost use Rattle.ice_chip.specs.Answers.{Answers, chip_of};
 ghost use Rattle.ice_chip.specs.IsRead.{IsRead};
 ghost use Rattle.ice_chip.specs.Views.{parts_view};
 
-use crate::faults::whole_fault;
+use crate::faults::fault_by_names;
 use ice_base::NoMemory;
-use ice_chip::{Chip, ChipFault, ChipParts};
+use ice_chip::{Chip, ChipFault, ChipParts, NamedParts};
 use std::alloc::Global;
+
+// The chip of these rows with the index of their names, or the first fault of the whole.
+fn build_named(alloc: Global, named: NamedParts) -> Result<Chip, ChipFault>
+    requires { IsRead named }
+    ensures { Answers result (chip_of named) }
+{
+    let fault = match fault_by_names(alloc, &named) {
+        Ok(None) => return Ok(Chip::new(alloc, named)?),
+        Ok(Some(fault)) => fault,
+        Err(NoMemory) => ChipFault::NoMemory,
+    };
+    drop(named);
+    Err(fault)
+}
 
 /// The chip of these rows, or the first fault of the whole.
 ///
@@ -20,11 +34,6 @@ pub fn build(alloc: Global, parts: ChipParts) -> Result<Chip, ChipFault>
     requires { IsRead (parts_view parts) }
     ensures { Answers result (chip_of (parts_view parts)) }
 {
-    let fault = match whole_fault(alloc, &parts) {
-        Ok(None) => return Ok(Chip::new(alloc, parts)?),
-        Ok(Some(fault)) => fault,
-        Err(NoMemory) => ChipFault::NoMemory,
-    };
-    drop(parts);
-    Err(fault)
+    let named = NamedParts::new(alloc, parts)?;
+    build_named(alloc, named)
 }

@@ -34,7 +34,8 @@ pub fn tile_again(
 
 /// The line of the first group that stands at a place without a tile. It takes no memory.
 pub fn group_without_tile(parts: &ChipParts) -> Option<u32>
-    ensures { result ≡ group_without_tile (parts_view parts.now).tiles (parts_view parts.now).groups }
+    ensures { result
+        ≡ group_without_tile (parts_view parts.now).tiles (parts_view parts.now).groups }
 {
     let mut last = placed_tile(parts, TileAt { x: 0, y: 0 });
     for group in &parts.groups {
@@ -70,7 +71,8 @@ fn exceeds(tile: Option<TileLine>, bits: &[BitAt]) -> bool
 
 /// The line of the first group with a bit in a column that its tile doesn't have. It takes no memory.
 pub fn group_beyond_tile(parts: &ChipParts) -> Option<u32>
-    ensures { result ≡ group_beyond_tile (parts_view parts.now).tiles (parts_view parts.now).groups }
+    ensures { result
+        ≡ group_beyond_tile (parts_view parts.now).tiles (parts_view parts.now).groups }
 {
     let mut last = placed_tile(parts, TileAt { x: 0, y: 0 });
     for group in &parts.groups {

@@ -1,7 +1,8 @@
 //! Functions that a kind of tile lacks, or has with another number of bits.
 ghost use Rattle.std.specs.Prelude.{◌≡◌, map};
 ghost use Rattle.ice_chip.specs.LacksFunction.{is_of_kind, has_kind, has_tile, is_buffer_source, has_each, has_logic, has_pin_types, has_pad_enables, has_needed, lacks_needed, bits_needed, has_wrong_bits, wrong_bits, lacks_function};
-ghost use Rattle.ice_chip.specs.Names.{cell_function, pin_type_function, input_enable_function, pull_up_function};
+ghost use Rattle.ice_chip.specs.Names.{cell_function, pin_type_function, input_enable_function};
+ghost use Rattle.ice_chip.specs.FunctionNames.{pull_up_function};
 ghost use Rattle.ice_chip.specs.declared.rows.TileKind.TheVariants.{Io, Logic};
 ghost use Rattle.ice_chip.specs.Views.{function_view, parts_view};
 
@@ -120,7 +121,8 @@ fn has_tile(parts: &ChipParts, kind: TileKind) -> bool
 
 // Whether the source of a row of the column buffers is a tile of the kind.
 fn is_buffer_source(parts: &ChipParts, kind: TileKind) -> bool
-    ensures { result ≡ is_buffer_source kind (parts_view parts.now).tiles (parts_view parts.now).colbuf }
+    ensures { result
+        ≡ is_buffer_source kind (parts_view parts.now).tiles (parts_view parts.now).colbuf }
 {
     for (source, _) in &parts.colbuf {
         if is_of_kind(kind, parts.tile_at(*source)) {
@@ -149,7 +151,8 @@ fn has_wrong_bits(parts: &ChipParts, function: &Function) -> bool
 
 // The least line of a function with a wrong number of bits.
 fn wrong_bits(parts: &ChipParts) -> Option<u32>
-    ensures { result ≡ wrong_bits (parts_view parts.now).tiles None (parts_view parts.now).functions }
+    ensures { result
+        ≡ wrong_bits (parts_view parts.now).tiles None (parts_view parts.now).functions }
 {
     let mut known = None;
     for function in &parts.functions {

@@ -37,7 +37,10 @@ fn note_placed<'a>(
     placed: PlacedText<'a>,
     known: WireLine,
 ) -> Result<Option<(u32, u32)>, NoMemory>
-    ensures { IfOk result (λ lines. with_placed (by_placed seen.old.entries) (placed_text placed.entry) known (lookup (same_placed (placed_text placed.entry)) (by_placed seen.old.entries)) ≡ clash_or lines (by_placed seen.new.entries)) }
+    ensures { IfOk result (λ lines.
+        with_placed (by_placed seen.old.entries) (placed_text placed.entry) known
+        (lookup (same_placed (placed_text placed.entry)) (by_placed seen.old.entries))
+        ≡ clash_or lines (by_placed seen.new.entries)) }
 {
     let met = seen.insert(placed, known)?;
     match met {
@@ -55,7 +58,8 @@ fn note_name<'a>(
     seen: &mut IndexMap<PlacedText<'a>, WireLine>,
     row: &'a NameRow,
 ) -> Result<Option<(u32, u32)>, NoMemory>
-    ensures { IfOk result (λ lines. with_name tile (by_placed seen.old.entries) (name_view row.now) ≡ clash_or lines (by_placed seen.new.entries)) }
+    ensures { IfOk result (λ lines. with_name tile (by_placed seen.old.entries) (name_view row.now)
+        ≡ clash_or lines (by_placed seen.new.entries)) }
 {
     if tile.is_none() {
         return Ok(None);
@@ -78,7 +82,8 @@ fn name_again<'a>(
     parts: &'a ChipParts,
     seen: &mut IndexMap<PlacedText<'a>, WireLine>,
 ) -> Result<Option<(u32, u32)>, NoMemory>
-    ensures { IfOk result (λ lines. lines ≡ name_of_two_wires (parts_view parts.now).tiles (by_placed seen.old.entries) (parts_view parts.now).names) }
+    ensures { IfOk result (λ lines. lines ≡ name_of_two_wires (parts_view parts.now).tiles
+        (by_placed seen.old.entries) (parts_view parts.now).names) }
 {
     for name in &parts.names {
         let lines = note_name(parts.tile_at(name.tile), seen, name)?;
@@ -92,7 +97,8 @@ fn name_again<'a>(
 /// The first line that gives a name in a tile to another wire than an earlier line does, and the first such
 /// earlier line. It fails for want of memory alone.
 pub fn name_of_two_wires(alloc: Global, parts: &ChipParts) -> Result<Option<(u32, u32)>, NoMemory>
-    ensures { IfOk result (λ lines. lines ≡ name_of_two_wires (parts_view parts.now).tiles [] (parts_view parts.now).names) }
+    ensures { IfOk result (λ lines.
+        lines ≡ name_of_two_wires (parts_view parts.now).tiles [] (parts_view parts.now).names) }
 {
     let mut seen = IndexMap::with_capacity(alloc, parts.names.len())?;
     name_again(parts, &mut seen)

@@ -48,7 +48,10 @@ fn note_pin(
     wire: u32,
     pin: PinLine,
 ) -> Result<Option<(u32, u32)>, NoMemory>
-    ensures { IfOk result (λ lines. with_pin seen.old.entries (record { wire = wire; tile = pin.pin.tile; name = pin.pin.name; line = pin.line }) (lookup (nat_eq wire) seen.old.entries) ≡ clash_or lines seen.new.entries) }
+    ensures { IfOk result (λ lines. with_pin seen.old.entries
+        (record { wire = wire; tile = pin.pin.tile; name = pin.pin.name; line = pin.line })
+        (lookup (nat_eq wire) seen.old.entries)
+        ≡ clash_or lines seen.new.entries) }
 {
     if let Some(first) = seen.get(&wire) {
         if same_pin(&first.pin, &pin.pin) {
@@ -67,7 +70,9 @@ fn note_pin_name(
     seen: &mut IndexMap<u32, PinLine>,
     row: &NameRow,
 ) -> Result<Option<(u32, u32)>, NoMemory>
-    ensures { IfOk result (λ lines. with_pin_name (tile_known (parts_view parts.now).tiles row.now.tile) seen.old.entries (name_view row.now) ≡ clash_or lines seen.new.entries) }
+    ensures { IfOk result (λ lines. with_pin_name
+        (tile_known (parts_view parts.now).tiles row.now.tile) seen.old.entries (name_view row.now)
+        ≡ clash_or lines seen.new.entries) }
 {
     if !is_pin_there(parts, row) {
         return Ok(None);

@@ -89,8 +89,8 @@ impl UsedBits {
 
     // Notes a use of a read function, which clashes with every use of its bit.
     fn note_read(&mut self, place: KindBit, line: u32) -> Result<(), NoMemory>
-        ensures { OnOk result (used_view self.new
-            ≡ with_use (used_view self.old) (record { place = place; is_read = true; line = line }) true) }
+        ensures { OnOk result (used_view self.new ≡ with_use (used_view self.old)
+            (record { place = place; is_read = true; line = line }) true) }
     {
         self.shared = with_clash(self.shared, line, self.any.get(&place).copied());
         note_line(&mut self.any, place, line)?;
@@ -99,8 +99,8 @@ impl UsedBits {
 
     // Notes another use, which clashes with those of read functions.
     fn note_other(&mut self, place: KindBit, line: u32) -> Result<(), NoMemory>
-        ensures { OnOk result (used_view self.new
-            ≡ with_use (used_view self.old) (record { place = place; is_read = false; line = line }) false) }
+        ensures { OnOk result (used_view self.new ≡ with_use (used_view self.old)
+            (record { place = place; is_read = false; line = line }) false) }
     {
         self.shared = with_clash(self.shared, line, self.read.get(&place).copied());
         note_line(&mut self.any, place, line)
@@ -201,7 +201,8 @@ fn with_group(
 
 // Notes the bits of all functions.
 fn note_functions(used: &mut UsedBits, functions: &[Function]) -> Result<(), NoMemory>
-    ensures { OnOk result (used_view used.new ≡ with_functions (used_view used.old) (map function_view functions.now)) }
+    ensures { OnOk result (used_view used.new
+        ≡ with_functions (used_view used.old) (map function_view functions.now)) }
 {
     for function in functions {
         used.note_function(function)?;
@@ -215,7 +216,8 @@ fn with_groups(
     read: &IndexMap<KindBit, u32>,
     known: Option<(u32, u32)>,
 ) -> Option<(u32, u32)>
-    ensures { result ≡ groups_shared (parts_view parts.now).tiles read.now.entries known (parts_view parts.now).groups }
+    ensures { result ≡ groups_shared (parts_view parts.now).tiles read.now.entries known
+        (parts_view parts.now).groups }
 {
     let mut first = known;
     let mut last = placed_tile(parts, TileAt { x: 0, y: 0 });

@@ -6,11 +6,12 @@ use Rattle.std.specs.Map.{keys_of}
 use Rattle.std.proofs.lemmas.Bool.{and_parts, and_right, ltb-true, not-true}
 use Rattle.std.proofs.lemmas.List.Elements.{All-nil, All-cons}
 use Rattle.ice_base.specs.declared.number.TileAt.{TileAt}
-use Rattle.ice_base.specs.declared.number.BitAt.{BitAt}
-use Rattle.ice_chip.specs.Database.{FunctionRow, WireName, SwitchGroup, SwitchRow, most_rows, same_tile, columns}
+use Rattle.ice_base.specs.declared.bit.BitAt.{BitAt}
+use Rattle.ice_chip.specs.Database.{FunctionRow, WireName, SwitchGroup, SwitchRow, same_tile, columns}
+use Rattle.ice_chip.specs.Limits.{most_rows}
 use Rattle.ice_chip.specs.Functions.{is_read, is_foreign, same_kind}
 use Rattle.ice_chip.specs.IsRead.{HasWiresBelow, IsRead, IsChip}
-use Rattle.ice_chip.specs.Lookups.{rows_of}
+use Rattle.ice_chip.specs.Listings.{rows_of}
 use Rattle.ice_chip.specs.Within.{IsPlace, IsPad, FeedsGlobal, PadFeedsGlobal, ArePads, ArePlaces, IsBit, IsKept, is_again, IsGroup, IsPackage}
 use Rattle.ice_chip.specs.declared.rows.Pad.{Pad}
 use Rattle.ice_chip_laws.specs.Example.{example, switch_groups, wire_names, FindsExample}

@@ -6,7 +6,7 @@ use Rattle.std.specs.Option.{option_and_then}
 use Rattle.std.proofs.lemmas.Bool.{and_parts, and_from, or_left, or_right}
 use Rattle.std.proofs.lemmas.Option.{slice_get-get_or}
 use Rattle.ice_base.specs.declared.number.TileAt.{TileAt}
-use Rattle.ice_base.specs.declared.number.BitAt.{BitAt}
+use Rattle.ice_base.specs.declared.bit.BitAt.{BitAt}
 use Rattle.ice_chip.specs.Database.{Parts, FunctionRow, same_tile, tile_known}
 use Rattle.ice_chip.specs.FirstLacking.{needs_buffers, is_needed, Lacks, IsWrong, IsFirstLack, LacksFunctionIsFirst}
 use Rattle.ice_chip.specs.Functions.{is_read, is_column_buffer, same_kind, function_line}

@@ -12,7 +12,7 @@ use Rattle.ice_chip.specs.WholeFaults.{same_placed, placed, wire_line, with_plac
 use Rattle.ice_chip.specs.declared.rows.TileLine.{TileLine}
 use Rattle.ice_chip.specs.declared.rows.TileKind.{TileKind}
 use Rattle.ice_chip.specs.declared.placed.PlacedName.{PlacedName}
-use Rattle.ice_chip.specs.declared.placed.WireLine.{WireLine}
+use Rattle.ice_chip.specs.declared.name_lines.WireLine.{WireLine}
 use Rattle.ice_base_values.specs.Order.{Has}
 use Rattle.ice_chip_laws.specs.Names.{HasNames}
 use Rattle.ice_chip_laws.proofs.FaultFree.{no_fault}

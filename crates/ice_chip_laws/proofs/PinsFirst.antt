@@ -10,7 +10,7 @@ use Rattle.ice_chip.specs.Names.{is_global_name}
 use Rattle.ice_chip.specs.SharedPins.{is_pin, same_pin, pin_line, with_pin, with_pin_name, shared_from}
 use Rattle.ice_chip.specs.WholeFaults.{placed, unless_clash}
 use Rattle.ice_chip.specs.declared.rows.TileLine.{TileLine}
-use Rattle.ice_chip.specs.declared.placed.PinLine.{PinLine}
+use Rattle.ice_chip.specs.declared.name_lines.PinLine.{PinLine}
 use Rattle.ice_chip.specs.declared.placed.PlacedName.{PlacedName}
 use Rattle.ice_chip_laws.specs.FirstPins.{AreTwoPins, SharedPinIsFirst}
 use Rattle.ice_chip_laws.specs.FirstTwo.{AreLinesOfFirst}

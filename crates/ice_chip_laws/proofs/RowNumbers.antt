@@ -5,7 +5,7 @@ use Rattle.std.proofs.lemmas.Option.{none-some}
 use Rattle.std.proofs.lemmas.List.{length-map}
 use Rattle.ice_chip.specs.Database.{Parts, SwitchGroup, SwitchRow}
 use Rattle.ice_chip.specs.IsRead.{AreNumbered, IsChip}
-use Rattle.ice_chip.specs.Lookups.{in_group, rows_of}
+use Rattle.ice_chip.specs.Listings.{in_group, rows_of}
 use Rattle.ice_base_values.specs.Order.{At, Has}
 use Rattle.ice_chip_laws.specs.Groups.{HasRows}
 use Rattle.ice_base_values.proofs.Members.{Has_cases, Has_none, At_left, At_right, At_parts, At_map, map_At}

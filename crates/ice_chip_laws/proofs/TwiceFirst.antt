@@ -9,7 +9,7 @@ use Rattle.ice_chip.specs.Lookups.{is_placed}
 use Rattle.ice_chip.specs.WholeFaults.{same_placed, placed, wire_line, with_placed, with_name, unless_clash, name_of_two_wires}
 use Rattle.ice_chip.specs.declared.rows.TileLine.{TileLine}
 use Rattle.ice_chip.specs.declared.placed.PlacedName.{PlacedName}
-use Rattle.ice_chip.specs.declared.placed.WireLine.{WireLine}
+use Rattle.ice_chip.specs.declared.name_lines.WireLine.{WireLine}
 use Rattle.ice_chip_laws.specs.FirstTwice.{AreOfTwoWires, NameOfTwoWiresIsFirst}
 use Rattle.ice_chip_laws.specs.FirstTwo.{AreLinesOfFirst}
 use Rattle.ice_base.proofs.Keys.{nat_same, nat_self}

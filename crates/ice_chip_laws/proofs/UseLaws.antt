@@ -5,7 +5,7 @@ use Rattle.std.specs.List.{flat_map}
 use Rattle.std.specs.Option.{option_and_then}
 use Rattle.std.proofs.lemmas.Bool.{cases_order, or_right}
 use Rattle.std.proofs.lemmas.Option.{none-some, same_Some}
-use Rattle.ice_base.specs.declared.number.BitAt.{BitAt}
+use Rattle.ice_base.specs.declared.bit.BitAt.{BitAt}
 use Rattle.ice_chip.specs.Database.{Parts, FunctionRow, SwitchGroup, columns, tile_known}
 use Rattle.ice_chip.specs.FirstLacking.{LacksFunctionIsFirst}
 use Rattle.ice_chip.specs.FirstShared.{AreShared, AreFirstShared, SharedFunctionIsFirst}

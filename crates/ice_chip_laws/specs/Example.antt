@@ -2,10 +2,12 @@
 use Rattle.std.specs.Prelude.{◌≡◌, ℕ, ◌+◌, ◌*◌, Bool, true, false, None, Some, List, [], ◌∷◌, ◌++◌, map, option_map, slice_get, codes}
 use Rattle.std.specs.List.{range_with_len}
 use Rattle.ice_base.specs.declared.number.TileAt.{TileAt}
-use Rattle.ice_base.specs.declared.number.BitAt.{BitAt}
+use Rattle.ice_base.specs.declared.bit.BitAt.{BitAt}
 use Rattle.ice_chip.specs.Database.{Parts, FunctionRow, WireName, SwitchGroup, SwitchRow}
-use Rattle.ice_chip.specs.Names.{cell_function, falling_clock_function, carry_set_function, pin_type_function, input_enable_function, pull_up_function, column_buffer_function}
-use Rattle.ice_chip.specs.Lookups.{wire_named, names_of, placed_at, rows_of, global_of, ieren_of, colbuf_of}
+use Rattle.ice_chip.specs.Names.{cell_function, falling_clock_function, pin_type_function, input_enable_function, column_buffer_function}
+use Rattle.ice_chip.specs.FunctionNames.{carry_set_function, pull_up_function}
+use Rattle.ice_chip.specs.Lookups.{wire_named, names_of, placed_at, global_of, ieren_of, colbuf_of}
+use Rattle.ice_chip.specs.Listings.{rows_of}
 use Rattle.ice_chip.specs.declared.rows.Pad.{Pad}
 use Rattle.ice_chip.specs.declared.rows.TileKind.{TileKind}
 use Rattle.ice_chip.specs.declared.rows.TileKind.TheVariants.{Io, Logic}

@@ -1,16 +1,17 @@
 -- Groups of switches, and the numbers of their rows.
 use Rattle.std.specs.Prelude.{◌≡◌, ℕ, ◌+◌, ◌<◌, Some, length}
-use Rattle.ice_base.specs.declared.number.BitAt.{BitAt}
+use Rattle.ice_base.specs.declared.bit.BitAt.{BitAt}
 use Rattle.ice_chip.specs.Database.{Parts, SwitchGroup, SwitchRow, columns}
-use Rattle.ice_chip.specs.Lookups.{kind_at, rows_of}
+use Rattle.ice_chip.specs.Lookups.{kind_at}
+use Rattle.ice_chip.specs.Listings.{rows_of}
 use Rattle.ice_chip.specs.declared.rows.TileKind.{TileKind}
 use Rattle.ice_base_values.specs.Order.{At, Has}
-use Rattle.ice_chip_laws.specs.Tiles.{Stands}
+use Rattle.ice_chip_laws.specs.Tiles.{HasTileAt}
 
 -- a group of switches stands in a tile that has its bits, and its wires are of the chip
 pub record HasGroups (parts : Parts) : Type 0 where
   -- a tile stands at the place of a group
-  pub placed : (g : SwitchGroup) → Has parts.groups g → Stands parts g.tile
+  pub placed : (g : SwitchGroup) → Has parts.groups g → HasTileAt parts g.tile
   -- and has the columns of the group's bits
   pub within : (g : SwitchGroup) (kind : TileKind) (b : BitAt) → Has parts.groups g → kind_at parts g.tile ≡ Some kind → Has g.bits b → b.col < columns kind
   -- and the rows, of which there are 16

@@ -5,7 +5,7 @@ use Rattle.ice_chip.specs.Database.{Parts}
 use Rattle.ice_chip.specs.Lookups.{names_of, wire_named, placed_at}
 use Rattle.ice_chip.specs.declared.placed.PlacedName.{PlacedName}
 use Rattle.ice_base_values.specs.Order.{Has}
-use Rattle.ice_chip_laws.specs.Tiles.{Stands}
+use Rattle.ice_chip_laws.specs.Tiles.{HasTileAt}
 
 -- the wire has the name
 abbrev pub HasName : Parts → ℕ → PlacedName → Type 0
@@ -22,4 +22,4 @@ pub record HasNames (parts : Parts) : Type 0 where
   -- a wire with a name is one of the chip
   pub below : (w : ℕ) (n : PlacedName) → HasName parts w n → w < parts.wires
   -- a tile stands where a wire has a name
-  pub placed : (w : ℕ) (n : PlacedName) → HasName parts w n → Stands parts n.tile
+  pub placed : (w : ℕ) (n : PlacedName) → HasName parts w n → HasTileAt parts n.tile

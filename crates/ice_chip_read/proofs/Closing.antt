@@ -6,7 +6,7 @@ use Rattle.ice_chip.specs.Database.{Parts, SwitchGroup, PackageRows}
 use Rattle.ice_chip.specs.Views.{group_view, package_view, parts_view}
 use Rattle.ice_chip.specs.declared.parts.ChipParts.{ChipParts}
 use Rattle.ice_chip.specs.declared.parts.Package.{Package}
-use Rattle.ice_chip.specs.declared.rows.Group.{Group}
+use Rattle.ice_chip.specs.declared.sections.Group.{Group}
 use Rattle.ice_chip_read.specs.Lines.{with_closed}
 use Rattle.ice_chip_read.specs.Reading as spec
 use Rattle.ice_chip_read.specs.Reading.{no_group, no_package, parts_closed, closed}

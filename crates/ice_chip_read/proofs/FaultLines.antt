@@ -5,15 +5,17 @@ use Rattle.std.specs.Prelude.{nat_eq}
 use Rattle.ice_base.specs.Places.{bits_named, values_in}
 use Rattle.ice_base.specs.Text.{begins_with, number_in}
 use Rattle.ice_base.specs.declared.number.TileAt.{TileAt}
-use Rattle.ice_base.specs.declared.number.BitAt.{BitAt}
-use Rattle.ice_chip.specs.Database.{Parts, most_places, most_wires, most_rows, columns, tile_known}
+use Rattle.ice_base.specs.declared.bit.BitAt.{BitAt}
+use Rattle.ice_chip.specs.Database.{Parts, columns, tile_known}
+use Rattle.ice_chip.specs.Limits.{most_places, most_wires, most_rows}
 use Rattle.ice_chip.specs.Functions.{is_read, is_foreign, function_line}
 use Rattle.ice_chip.specs.declared.fault.ChipFault.{ChipFault}
 use Rattle.ice_chip.specs.declared.rows.TileLine.{TileLine}
 use Rattle.ice_chip.specs.declared.rows.TileKind.{TileKind}
 use Rattle.ice_chip_read.specs.Faults.{◌>>=◌}
 use Rattle.ice_chip_read.specs.FirstFault.{NamesLine}
-use Rattle.ice_chip_read.specs.Words.{padin_global, known, number, two, three, no_word_left, heading_of}
+use Rattle.ice_chip_read.specs.Words.{known, number, two, three, no_word_left, heading_of}
+use Rattle.ice_chip.specs.Names.{padin_global}
 use Rattle.ice_chip_read.specs.Lines.{tile_in, pad_in, wire_in, global_in, unseen, one_word, sizes_in, begun_within, device_first, new_tile, tile_heading, bits_heading, net_heading, bits_at, group_bits, switches_heading, heading_says, pin_row, buffer_input_row, buffer_pin_row, extra_row, input_enable_row, column_buffer_row, kept_function, function_row, name_row, known_values, values_at, switch_row, row_says, with_closed, chip_line_says, first_says}
 use Rattle.ice_chip_read.specs.Reading.{Reading}
 use Rattle.ice_chip_read.specs.declared.section.Section.{Section}

@@ -3,7 +3,7 @@ use Rattle.std.proofs.Common.{◌≡◌, ℕ, ◌<◌, ◌==◌, ◌&&◌, Bool,
 use Rattle.std.proofs.lemmas.List.Elements.{All-nil, All-cons}
 use Rattle.ice_base.specs.Text.{number_in, number_below}
 use Rattle.ice_base.specs.declared.number.TileAt.{TileAt}
-use Rattle.ice_base.specs.declared.number.BitAt.{BitAt}
+use Rattle.ice_base.specs.declared.bit.BitAt.{BitAt}
 use Rattle.ice_chip.specs.Database.{Parts}
 use Rattle.ice_chip.specs.Within.{IsPlace, IsPad, IsBit}
 use Rattle.ice_chip.specs.declared.fault.ChipFault.TheVariants.{OutOfRange, BadBit, BadValues}

@@ -7,3 +7,5 @@ mod ReadForms
 mod FaultLines
 mod FirstFaults
 mod PlainRows
+mod Fronts
+mod PlainLines

@@ -6,7 +6,8 @@ use Rattle.std.specs.Str.{all_ascii_digits}
 use Rattle.std.proofs.lemmas.Bool.{and_parts}
 use Rattle.std.proofs.lemmas.List.{drop_more}
 use Rattle.ice_base.specs.Places.{digit_value, values_in}
-use Rattle.ice_base.specs.Text.{begins_with, uncommented, words, ends_word, IsWord, decimal_value, is_number, number_in}
+use Rattle.ice_base.specs.Text.{begins_with, uncommented, words, ends_word, decimal_value, is_number, number_in}
+use Rattle.ice_base.specs.Lines.{IsWord}
 use Rattle.ice_base.specs.Lists.{all_known}
 use Rattle.ice_base.proofs.Cuts.{tail_is}
 use Rattle.ice_base.proofs.Digits.{number_is}
@@ -66,10 +67,10 @@ is_numeral word false n e = absurd (true≢false (sym (ap is_some e)))
 
 -- ---- words
 -- a word that begins neither a comment nor a heading
-record IsPlainWord (bytes : List ℕ) : Type 0 where
-  word : IsWord bytes
-  no_comment : begins_with 35 bytes ≡ false
-  no_heading : begins_with 46 bytes ≡ false
+pub record IsPlainWord (bytes : List ℕ) : Type 0 where
+  pub word : IsWord bytes
+  pub no_comment : begins_with 35 bytes ≡ false
+  pub no_heading : begins_with 46 bytes ≡ false
 
 all_within : (bytes : List ℕ) → AllByRecursion IsPlain bytes → AllByRecursion (λ b. ends_word b ≡ false) bytes
 all_within [] all = tt
@@ -79,7 +80,7 @@ plain_word : (bytes : List ℕ) → 0 < length bytes → AllByRecursion IsPlain 
 plain_word [] some all = record { word = (some, tt); no_comment = refl; no_heading = refl }
 plain_word (b ∷ bytes) some all = record { word = (some, all_within (b ∷ bytes) all); no_comment = all.0.no_comment; no_heading = all.0.no_heading }
 
-number_plain : (word : List ℕ) (n : ℕ) → number_in word ≡ Some n → IsPlainWord word
+pub number_plain : (word : List ℕ) (n : ℕ) → number_in word ≡ Some n → IsPlainWord word
 number_plain word n e =
     let is : is_number word ≡ true = is_numeral word (is_number word) n (sym (number_is word) ∙ e) in
     let fits = and_parts (nat_le 1 (length word) && nat_le (length word) 10 && all_ascii_digits word) (nat_lt (decimal_value word) (2 ^ 32)) is in

@@ -6,7 +6,8 @@ use Rattle.std.specs.List.{IsDistinct}
 use Rattle.std.specs.Map.{lookup, keys_of}
 use Rattle.ice_base.specs.Text.{begins_with}
 use Rattle.ice_base.specs.declared.number.TileAt.{TileAt}
-use Rattle.ice_chip.specs.Database.{Parts, FunctionRow, WireName, SwitchGroup, PackageRows, most_wires, most_places, most_rows, columns, same_tile, tile_known}
+use Rattle.ice_chip.specs.Database.{Parts, FunctionRow, WireName, SwitchGroup, PackageRows, columns, same_tile, tile_known}
+use Rattle.ice_chip.specs.Limits.{most_wires, most_places, most_rows}
 use Rattle.ice_chip.specs.Functions.{is_read, is_foreign, function_line}
 use Rattle.ice_chip.specs.Within.{IsPlace, IsPad, FeedsGlobal, PadFeedsGlobal, ArePads, ArePlaces, IsBit, IsKept, is_again, IsGroup, IsPackage}
 use Rattle.ice_chip.specs.declared.fault.ChipFault.TheVariants.{NoDevice, OutOfRange, TooMany}
@@ -18,7 +19,8 @@ use Rattle.ice_chip_read.specs.declared.section.Section.TheVariants as section
 use Rattle.ice_chip_read.specs.declared.section.Heading.{Heading}
 use Rattle.ice_chip_read.specs.declared.section.Heading.TheVariants as heading
 use Rattle.ice_chip_read.specs.Faults.{◌>>=◌}
-use Rattle.ice_chip_read.specs.Words.{padin_global, number, two, three, no_word_left, heading_of}
+use Rattle.ice_chip_read.specs.Words.{number, two, three, no_word_left, heading_of}
+use Rattle.ice_chip.specs.Names.{padin_global}
 use Rattle.ice_chip_read.specs.Reading.{Reading, begun, closed}
 use Rattle.ice_base.specs.Places.{bits_named}
 use Rattle.ice_chip_read.specs.Lines.{tile_in, pad_in, wire_in, global_in, unseen, one_word, sizes_in, begun_within, device_first, tile_line, new_tile, bits_at, group_bits, heading_says, kept_function, function_row, extra_row, values_at, with_row, row_says, with_closed, chip_line_says, chip_lines_say, first_says, plain_says}

@@ -5,10 +5,11 @@ use Rattle.std.proofs.lemmas.List.Elements.{All-nil, All-push}
 use Rattle.std.specs.Map.{lookup}
 use Rattle.ice_base.specs.Text.{begins_with}
 use Rattle.ice_base.specs.declared.number.TileAt.{TileAt}
-use Rattle.ice_chip.specs.Database.{Parts, WireName, SwitchGroup, SwitchRow, most_wires, most_places, most_rows, columns, tile_known}
+use Rattle.ice_chip.specs.Database.{Parts, WireName, SwitchGroup, SwitchRow, columns, tile_known}
+use Rattle.ice_chip.specs.Limits.{most_wires, most_places, most_rows}
 use Rattle.ice_chip.specs.Functions.{is_read, is_foreign, function_line}
 use Rattle.ice_chip.specs.IsRead.{HasWiresBelow, AreNumbered, IsRead}
-use Rattle.ice_chip.specs.Lookups.{in_group, rows_of}
+use Rattle.ice_chip.specs.Listings.{in_group, rows_of}
 use Rattle.ice_chip.specs.declared.fault.ChipFault.TheVariants.{NoDevice, OutOfRange, TooMany}
 use Rattle.ice_chip.specs.declared.rows.TileKind.{TileKind}
 use Rattle.ice_chip.specs.declared.rows.TileLine.{TileLine}
@@ -17,7 +18,8 @@ use Rattle.ice_chip_read.specs.declared.section.Section.TheVariants as section
 use Rattle.ice_chip_read.specs.declared.section.Heading.{Heading}
 use Rattle.ice_chip_read.specs.declared.section.Heading.TheVariants as heading
 use Rattle.ice_chip_read.specs.Faults.{◌>>=◌}
-use Rattle.ice_chip_read.specs.Words.{padin_global, number, two, three, no_word_left, heading_of}
+use Rattle.ice_chip_read.specs.Words.{number, two, three, no_word_left, heading_of}
+use Rattle.ice_chip.specs.Names.{padin_global}
 use Rattle.ice_chip_read.specs.Reading.{Reading, begun, closed}
 use Rattle.ice_base.specs.Places.{bits_named}
 use Rattle.ice_chip_read.specs.Lines.{tile_in, pad_in, wire_in, global_in, unseen, one_word, sizes_in, begun_within, device_first, new_tile, bits_at, group_bits, heading_says, kept_function, extra_row, values_at, with_row, row_says, with_closed, chip_line_says, chip_lines_say, first_says, plain_says}

@@ -4,8 +4,9 @@ use Rattle.std.specs.Map.{lookup}
 use Rattle.indexmap.specs.IndexSet.{insert_key}
 use Rattle.ice_base.specs.Text.{lines, numbered, begins_with, plain_lines}
 use Rattle.ice_base.specs.declared.number.TileAt.{TileAt}
-use Rattle.ice_base.specs.declared.number.BitAt.{BitAt}
-use Rattle.ice_chip.specs.Database.{most_places, most_wires, most_rows, Parts, PackageRows, same_pad, columns, tile_known}
+use Rattle.ice_base.specs.declared.bit.BitAt.{BitAt}
+use Rattle.ice_chip.specs.Database.{Parts, PackageRows, same_pad, columns, tile_known}
+use Rattle.ice_chip.specs.Limits.{most_places, most_wires, most_rows}
 use Rattle.ice_chip.specs.declared.rows.TileKind.{TileKind}
 use Rattle.ice_chip.specs.declared.rows.Pad.{Pad}
 use Rattle.ice_chip.specs.declared.rows.TileLine.{TileLine}
@@ -16,7 +17,8 @@ use Rattle.ice_chip_read.specs.declared.section.Section.TheVariants as section
 use Rattle.ice_chip_read.specs.declared.section.Heading.{Heading}
 use Rattle.ice_chip_read.specs.declared.section.Heading.TheVariants as heading
 use Rattle.ice_chip_read.specs.Faults.{◌>>=◌}
-use Rattle.ice_chip_read.specs.Words.{number, two, three, no_word_left, padin_global, heading_of}
+use Rattle.ice_chip_read.specs.Words.{number, two, three, no_word_left, heading_of}
+use Rattle.ice_chip.specs.Names.{padin_global}
 use Rattle.ice_base.specs.Places.{bits_named, values_in}
 use Rattle.ice_chip.specs.Functions.{is_read, is_foreign, function_line}
 use Rattle.ice_chip_read.specs.Reading.{Reading, begun, closed, tile_at, no_group, no_package}

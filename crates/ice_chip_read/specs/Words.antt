@@ -1,11 +1,9 @@
 -- What words write: numbers, the names of extra bits, and the first words of headings.
-use Rattle.std.specs.Prelude.{ℕ, Option, Some, None, List, [], ◌∷◌, Result, Ok, Err, ◌==◌, ◌||◌, codes, if◌then◌else◌, bytes_eq}
+use Rattle.std.specs.Prelude.{ℕ, Option, Some, None, List, [], ◌∷◌, Result, Ok, Err, ◌||◌, codes, if◌then◌else◌, bytes_eq}
 use Rattle.ice_base.specs.Text.{number_in}
 use Rattle.ice_chip_read.specs.Faults.{◌>>=◌}
 use Rattle.ice_chip.specs.declared.fault.ChipFault.{ChipFault}
 use Rattle.ice_chip.specs.declared.fault.ChipFault.TheVariants.{BadNumber}
-use Rattle.std.specs.Option.{option_and_then}
-use Rattle.ice_chip.specs.Names.{behind}
 use Rattle.ice_chip.specs.declared.rows.TileKind.TheVariants.{Io, Logic, RamBottom, RamTop}
 use Rattle.ice_chip_read.specs.declared.section.Heading.{Heading}
 use Rattle.ice_chip_read.specs.declared.section.Heading.TheVariants.{Device, Pins, BufferInputs, BufferPins, ExtraBits, InputEnables, ColumnBuffers, Tile, Bits, Net, Switches, Other}
@@ -31,15 +29,6 @@ three line ws = number line ws >>= (λ a. two line a.1 >>= (λ b. Ok ((a.0, b.0.
 abbrev pub no_word_left : ℕ → List (List ℕ) → Result Unit ChipFault
 no_word_left line [] = Ok tt
 no_word_left line (w ∷ ws) = Err (BadNumber line)
-
--- the number behind a dot, 46, or an underscore, 95
-abbrev pub separated_number : List ℕ → Option ℕ
-separated_number [] = None
-separated_number (separator ∷ digits) = if (separator == 46) || (separator == 95) then number_in digits else None
-
--- the number of the global that `padin_glb_netwk.N` or `padin_glb_netwk_N` names
-abbrev pub padin_global : List ℕ → Option ℕ
-padin_global name = option_and_then separated_number (behind (codes "padin_glb_netwk") name)
 
 -- the headings of tiles and of the functions of their kinds
 abbrev pub tile_heading_of : List ℕ → Heading

@@ -1,4 +1,5 @@
 //! Names of configuration bits, and values of rows.
+ghost use Rattle.std.specs.Prelude.{◌≤◌, length};
 ghost use Rattle.ice_base.specs.Places.{bits_named, values_in};
 ghost use Rattle.ice_chip_read.specs.Lines.{bits_at, group_bits, values_at, known_values};
 ghost use Rattle.ice_chip_read.specs.Views.{Gives};
@@ -39,9 +40,26 @@ pub fn group_bits(alloc: Global, line: u32, names: PlainWords<'_>) -> Result<Bit
     Ok(bits)
 }
 
-/// The values that these digits write.
+// The values that at most eight digits write, which need no memory of their own.
+#[tactic(auto, using(ice_base::proofs::KnownLists::all_begin, ice_base::proofs::KnownLists::value_stops))]
+fn few_values(alloc: Global, line: u32, digits: &[u8]) -> Result<ValueList, ChipStop>
+    requires { length digits.now ≤ 8 }
+    ensures { Gives (λ values. values.items) result (known_values line (values_in digits.now)) }
+{
+    let mut room = [false; 8];
+    for k in 0..digits.len() {
+        let Some(value) = digit_value(digits[k]) else {
+            return Err(ChipStop::Fault(ChipFault::BadValues { line }));
+        };
+        room[k] = value;
+    }
+    let values = ValueList::from_slice(alloc, &room[..digits.len()])?;
+    Ok(values)
+}
+
+// The values that so many digits write.
 #[tactic(auto, using(ice_base::proofs::KnownLists::all_begin, ice_base::proofs::KnownLists::value_joins, ice_base::proofs::KnownLists::value_stops, ice_base::proofs::KnownLists::values_end))]
-pub fn known_values(alloc: Global, line: u32, digits: &[u8]) -> Result<ValueList, ChipStop>
+fn many_values(alloc: Global, line: u32, digits: &[u8]) -> Result<ValueList, ChipStop>
     ensures { Gives (λ values. values.items) result (known_values line (values_in digits.now)) }
 {
     let mut values = ValueList::with_capacity(alloc, digits.len())?;
@@ -52,6 +70,16 @@ pub fn known_values(alloc: Global, line: u32, digits: &[u8]) -> Result<ValueList
         values.push(value)?;
     }
     Ok(values)
+}
+
+/// The values that these digits write.
+pub fn known_values(alloc: Global, line: u32, digits: &[u8]) -> Result<ValueList, ChipStop>
+    ensures { Gives (λ values. values.items) result (known_values line (values_in digits.now)) }
+{
+    if digits.len() <= 8 {
+        return few_values(alloc, line, digits);
+    }
+    many_values(alloc, line, digits)
 }
 
 /// The values of a row, one for each of its group's bits.

@@ -1,7 +1,6 @@
 //! Rows of extra bits.
 ghost use Rattle.std.specs.Prelude.{◌≡◌, option_map};
-ghost use Rattle.ice_chip.specs.Names.{behind};
-ghost use Rattle.ice_chip_read.specs.Words.{separated_number, padin_global};
+ghost use Rattle.ice_chip.specs.Names.{behind, separated_number, padin_global};
 ghost use Rattle.ice_chip_read.specs.Lines.{extra_bit_row, extra_row};
 ghost use Rattle.ice_chip_read.specs.Views.{Gives, reading_view};
 
@@ -46,7 +45,8 @@ fn extra_bit_row(
     global: u32,
     mut words: PlainWords<'_>,
 ) -> Result<(), ChipStop>
-    ensures { Gives (λ _. reading_view reading.new) result (extra_bit_row (reading_view reading.old) line global words.entry) }
+    ensures { Gives (λ _. reading_view reading.new) result
+        (extra_bit_row (reading_view reading.old) line global words.entry) }
 {
     let place = three(line, &mut words)?;
     ended(line, words)?;
@@ -62,7 +62,8 @@ pub fn extra_row(
     name: &[u8],
     words: PlainWords<'_>,
 ) -> Result<(), ChipStop>
-    ensures { Gives (λ _. reading_view reading.new) result (extra_row (reading_view reading.old) line (padin_global name.now) words.entry) }
+    ensures { Gives (λ _. reading_view reading.new) result
+        (extra_row (reading_view reading.old) line (padin_global name.now) words.entry) }
 {
     match padin_global(name) {
         Some(global) => extra_bit_row(reading, line, global, words),

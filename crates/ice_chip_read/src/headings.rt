@@ -13,6 +13,7 @@ ghost use Rattle.ice_chip_read.specs.Lines.{
   switches_heading,
   heading_says,
 };
+ghost use Rattle.ice_chip_read.specs.PlainRows.{group_comes, net_comes};
 ghost use Rattle.ice_chip_read.specs.Views.{Says, Gives, reading_view};
 
 use crate::ChipStop;
@@ -79,7 +80,8 @@ pub fn device_first(alloc: Global, line: u32, words: PlainWords<'_>) -> Result<R
 
 // A second `.device`, which is a fault in any case.
 fn device_again(reading: &Reading, line: u32, words: PlainWords<'_>) -> Result<(), ChipFault>
-    ensures { Says (λ _. reading_view reading.now) result (device_again (reading_view reading.now) line words.entry) }
+    ensures { Says (λ _. reading_view reading.now) result
+        (device_again (reading_view reading.now) line words.entry) }
 {
     let _sizes = sizes(line, words)?;
     Err(ChipFault::Twice {
@@ -95,7 +97,8 @@ fn pins_heading(
     line: u32,
     words: PlainWords<'_>,
 ) -> Result<(), ChipStop>
-    ensures { Gives (λ _. reading_view reading.new) result (pins_heading (reading_view reading.old) line words.entry) }
+    ensures { Gives (λ _. reading_view reading.new) result
+        (pins_heading (reading_view reading.old) line words.entry) }
 {
     let name = one_word(line, words)?;
     reading.pins = Package {
@@ -114,7 +117,8 @@ fn plain_heading(
     line: u32,
     words: PlainWords<'_>,
 ) -> Result<(), ChipFault>
-    ensures { Says (λ _. reading_view reading.new) result (plain_heading (reading_view reading.old) section line words.entry) }
+    ensures { Says (λ _. reading_view reading.new) result
+        (plain_heading (reading_view reading.old) section line words.entry) }
 {
     ended(line, words)?;
     reading.section = section;
@@ -128,7 +132,8 @@ fn tile_heading(
     kind: TileKind,
     mut words: PlainWords<'_>,
 ) -> Result<(), ChipStop>
-    ensures { Gives (λ _. reading_view reading.new) result (tile_heading (reading_view reading.old) line kind words.entry) }
+    ensures { Gives (λ _. reading_view reading.new) result
+        (tile_heading (reading_view reading.old) line kind words.entry) }
 {
     let (x, y) = two(line, &mut words)?;
     ended(line, words)?;
@@ -151,7 +156,8 @@ fn bits_heading(
     kind: TileKind,
     mut words: PlainWords<'_>,
 ) -> Result<(), ChipFault>
-    ensures { Says (λ _. reading_view reading.new) result (bits_heading (reading_view reading.old) line kind words.entry) }
+    ensures { Says (λ _. reading_view reading.new) result
+        (bits_heading (reading_view reading.old) line kind words.entry) }
 {
     let (width, height) = two(line, &mut words)?;
     ended(line, words)?;
@@ -162,22 +168,31 @@ fn bits_heading(
     Ok(())
 }
 
-// `.net N`
-fn net_heading(reading: &mut Reading, line: u32, mut words: PlainWords<'_>) -> Result<(), ChipStop>
-    ensures { Gives (λ _. reading_view reading.new) result (net_heading (reading_view reading.old) line words.entry) }
+/// The section of the names of the wire of this number begins.
+pub fn begin_names(reading: &mut Reading, line: u32, wire: u32) -> Result<(), ChipStop>
+    ensures { Gives (λ _. reading_view reading.new) result
+        (net_comes (reading_view reading.old) line wire) }
 {
-    let wire = number(line, &mut words)?;
-    ended(line, words)?;
-    let wire = wire_in(line, &reading.parts, wire)?;
-    if let Some(other) = reading.nets.get(&wire) {
+    let known = wire_in(line, &reading.parts, wire)?;
+    if let Some(other) = reading.nets.get(&known) {
         return Err(ChipStop::Fault(ChipFault::Twice {
             line,
             other: *other,
         }));
     }
-    reading.nets.insert(wire, line)?;
-    reading.section = Section::Names(wire);
+    reading.nets.insert(known, line)?;
+    reading.section = Section::Names(known);
     Ok(())
+}
+
+// `.net N`
+fn net_heading(reading: &mut Reading, line: u32, mut words: PlainWords<'_>) -> Result<(), ChipStop>
+    ensures { Gives (λ _. reading_view reading.new) result
+        (net_heading (reading_view reading.old) line words.entry) }
+{
+    let wire = number(line, &mut words)?;
+    ended(line, words)?;
+    begin_names(reading, line, wire)
 }
 
 // Room for the rows of a group of so many bits, as the known databases have them; for more it is found as they come.
@@ -190,16 +205,18 @@ fn room_for_rows(bits: usize) -> usize {
     }
 }
 
-// `.buffer X Y DST B..` and `.routing X Y DST B..`
-fn switches_heading(
+/// A group begins, at the place of these coordinates into the wire of this number, with the bits that these words name.
+pub fn begin_group(
     alloc: Global,
     reading: &mut Reading,
     line: u32,
-    mut words: PlainWords<'_>,
+    numbers: (u32, u32, u32),
+    words: PlainWords<'_>,
 ) -> Result<(), ChipStop>
-    ensures { Gives (λ _. reading_view reading.new) result (switches_heading (reading_view reading.old) line words.entry) }
+    ensures { Gives (λ _. reading_view reading.new) result
+        (group_comes (reading_view reading.old) line numbers words.entry) }
 {
-    let (x, y, wire) = three(line, &mut words)?;
+    let (x, y, wire) = numbers;
     let tile = tile_in(line, &reading.parts, x, y)?;
     let wire = wire_in(line, &reading.parts, wire)?;
     let bits = group_bits(alloc, line, words)?;
@@ -216,6 +233,20 @@ fn switches_heading(
     Ok(())
 }
 
+// `.buffer X Y DST B..` and `.routing X Y DST B..`
+fn switches_heading(
+    alloc: Global,
+    reading: &mut Reading,
+    line: u32,
+    mut words: PlainWords<'_>,
+) -> Result<(), ChipStop>
+    ensures { Gives (λ _. reading_view reading.new) result
+        (switches_heading (reading_view reading.old) line words.entry) }
+{
+    let numbers = three(line, &mut words)?;
+    begin_group(alloc, reading, line, numbers, words)
+}
+
 /// What a heading says, behind the section before.
 pub fn heading_line(
     alloc: Global,
@@ -224,7 +255,8 @@ pub fn heading_line(
     heading: Heading,
     words: PlainWords<'_>,
 ) -> Result<(), ChipStop>
-    ensures { Gives (λ _. reading_view reading.new) result (heading_says (reading_view reading.old) line heading words.entry) }
+    ensures { Gives (λ _. reading_view reading.new) result
+        (heading_says (reading_view reading.old) line heading words.entry) }
 {
     match heading {
         Heading::Device => Ok(device_again(reading, line, words)?),

@@ -12,6 +12,8 @@ ghost use Rattle.ice_chip_read.specs.FirstFault.{HasChip, HasFirstFault};
 pub fn says_chip_or_first_fault(text: &[u8])
     ensures chip { (parts : Parts) → (chip_says text.now ≡ Ok parts ↔ HasChip text.now parts) }
     ensures fault { (f : ChipFault) → (chip_says text.now ≡ Err f ↔ HasFirstFault text.now f) }
-    ensures one { ((parts : Parts) × HasChip text.now parts) ⊎ ((f : ChipFault) × HasFirstFault text.now f) }
-    ensures never_both { (parts : Parts) → (f : ChipFault) → HasChip text.now parts → HasFirstFault text.now f → ⊥ }
+    ensures one { ((parts : Parts) × HasChip text.now parts)
+        ⊎ ((f : ChipFault) × HasFirstFault text.now f) }
+    ensures never_both { (parts : Parts) → (f : ChipFault) → HasChip text.now parts
+        → HasFirstFault text.now f → ⊥ }
 {}

@@ -4,6 +4,7 @@
 mod bits;
 mod extra_bits;
 mod fault;
+mod front;
 mod headings;
 mod laws;
 mod ranges;

@@ -22,7 +22,8 @@ use std::alloc::Global;
 /// # Errors
 /// The line's fault, or want of memory.
 pub fn take_line(alloc: Global, reading: &mut Reading, line: PlainLine<'_>) -> Result<(), ChipStop>
-    ensures { Gives (λ _. reading_view reading.new) result (chip_line_says (reading_view reading.old) line.entry.number (line.entry.first.now ∷ line.entry.others)) }
+    ensures { Gives (λ _. reading_view reading.new) result (chip_line_says
+        (reading_view reading.old) line.entry.number (line.entry.first.now ∷ line.entry.others)) }
 {
     if begins_with(b'.', line.first) {
         close(alloc, reading)?;
@@ -42,7 +43,8 @@ pub fn take_line(alloc: Global, reading: &mut Reading, line: PlainLine<'_>) -> R
 /// # Errors
 /// The line's fault.
 pub fn take_first(alloc: Global, line: PlainLine<'_>) -> Result<Reading, ChipFault>
-    ensures { Says reading_view result (first_says line.entry.number (line.entry.first.now ∷ line.entry.others)) }
+    ensures { Says reading_view result
+        (first_says line.entry.number (line.entry.first.now ∷ line.entry.others)) }
 {
     if line.first != b".device".as_slice() {
         return Err(ChipFault::NoDevice { line: line.number });
@@ -52,7 +54,8 @@ pub fn take_first(alloc: Global, line: PlainLine<'_>) -> Result<Reading, ChipFau
 
 // All these lines more.
 fn take_lines(alloc: Global, reading: &mut Reading, lines: PlainLines<'_>) -> Result<(), ChipStop>
-    ensures { Gives (λ _. reading_view reading.new) result (chip_lines_say (reading_view reading.old) lines.entry) }
+    ensures { Gives (λ _. reading_view reading.new) result
+        (chip_lines_say (reading_view reading.old) lines.entry) }
 {
     for line in lines {
         take_line(alloc, reading, line)?;

@@ -84,7 +84,8 @@ fn clear_package(alloc: Global, pins: &mut Package)
 
 /// Ends the section that is open: its group or package joins the others.
 pub fn close(alloc: Global, reading: &mut Reading) -> Result<(), ChipStop>
-    ensures { Gives (λ _. reading_view reading.new) result (Ok (with_closed (reading_view reading.old))) }
+    ensures { Gives (λ _. reading_view reading.new) result
+        (Ok (with_closed (reading_view reading.old))) }
 {
     let section = mem::replace(&mut reading.section, Section::Rowless);
     let group = mem::replace(&mut reading.group, no_group(alloc));

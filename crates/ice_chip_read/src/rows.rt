@@ -15,7 +15,7 @@ ghost use Rattle.ice_chip_read.specs.Lines.{
   switch_row,
   row_says,
 };
-ghost use Rattle.ice_chip_read.specs.PlainRows.{row_joins};
+ghost use Rattle.ice_chip_read.specs.PlainRows.{name_comes, row_joins};
 ghost use Rattle.ice_chip_read.specs.Views.{Gives, reading_view};
 
 use crate::ChipStop;
@@ -37,7 +37,8 @@ const MOST_ROWS: u32 = 16_777_216;
 
 // A pin of a package; of repeated pins the first counts.
 fn add_pin(alloc: Global, pins: &mut Package, pin: &[u8], pad: Pad) -> Result<(), ChipStop>
-    ensures { Gives (λ _. package_view pins.new) result (Ok (with_pin (package_view pins.old) pin.now pad (lookup (bytes_eq pin.now) (package_view pins.old).pins))) }
+    ensures { Gives (λ _. package_view pins.new) result (Ok (with_pin (package_view pins.old)
+        pin.now pad (lookup (bytes_eq pin.now) (package_view pins.old).pins))) }
 {
     let pin = name_of(alloc, pin)?;
     if pins.pins.get(&pin).is_some() {
@@ -56,7 +57,8 @@ fn pin_row(
     pin: &[u8],
     mut words: PlainWords<'_>,
 ) -> Result<(), ChipStop>
-    ensures { Gives (λ _. reading_view reading.new) result (pin_row (reading_view reading.old) line pin.now words.entry) }
+    ensures { Gives (λ _. reading_view reading.new) result
+        (pin_row (reading_view reading.old) line pin.now words.entry) }
 {
     let (x, y, pio) = three(line, &mut words)?;
     ended(line, words)?;
@@ -71,7 +73,8 @@ fn buffer_input_row(
     first: &[u8],
     mut words: PlainWords<'_>,
 ) -> Result<(), ChipStop>
-    ensures { Gives (λ _. reading_view reading.new) result (buffer_input_row (reading_view reading.old) line (first.now ∷ words.entry)) }
+    ensures { Gives (λ _. reading_view reading.new) result
+        (buffer_input_row (reading_view reading.old) line (first.now ∷ words.entry)) }
 {
     let (x, y, global) = three_from(line, first, &mut words)?;
     ended(line, words)?;
@@ -88,7 +91,8 @@ fn buffer_pin_row(
     first: &[u8],
     mut words: PlainWords<'_>,
 ) -> Result<(), ChipStop>
-    ensures { Gives (λ _. reading_view reading.new) result (buffer_pin_row (reading_view reading.old) line (first.now ∷ words.entry)) }
+    ensures { Gives (λ _. reading_view reading.new) result
+        (buffer_pin_row (reading_view reading.old) line (first.now ∷ words.entry)) }
 {
     let (x, y, pio) = three_from(line, first, &mut words)?;
     let global = number(line, &mut words)?;
@@ -106,7 +110,8 @@ fn input_enable_row(
     first: &[u8],
     mut words: PlainWords<'_>,
 ) -> Result<(), ChipStop>
-    ensures { Gives (λ _. reading_view reading.new) result (input_enable_row (reading_view reading.old) line (first.now ∷ words.entry)) }
+    ensures { Gives (λ _. reading_view reading.new) result
+        (input_enable_row (reading_view reading.old) line (first.now ∷ words.entry)) }
 {
     let (x, y, pio) = three_from(line, first, &mut words)?;
     let (enable_x, enable_y, enable_pio) = three(line, &mut words)?;
@@ -124,7 +129,8 @@ fn column_buffer_row(
     first: &[u8],
     mut words: PlainWords<'_>,
 ) -> Result<(), ChipStop>
-    ensures { Gives (λ _. reading_view reading.new) result (column_buffer_row (reading_view reading.old) line (first.now ∷ words.entry)) }
+    ensures { Gives (λ _. reading_view reading.new) result
+        (column_buffer_row (reading_view reading.old) line (first.now ∷ words.entry)) }
 {
     let (source_x, source_y) = two_from(line, first, &mut words)?;
     let (x, y) = two(line, &mut words)?;
@@ -144,7 +150,8 @@ fn kept_function(
     name: &[u8],
     words: PlainWords<'_>,
 ) -> Result<(), ChipStop>
-    ensures { Gives (λ _. reading_view reading.new) result (kept_function (reading_view reading.old) line kind name.now words.entry) }
+    ensures { Gives (λ _. reading_view reading.new) result
+        (kept_function (reading_view reading.old) line kind name.now words.entry) }
 {
     let bits = bits(alloc, line, kind.columns(), words)?;
     let name = name_of(alloc, name)?;
@@ -166,7 +173,8 @@ fn function_row(
     name: &[u8],
     words: PlainWords<'_>,
 ) -> Result<(), ChipStop>
-    ensures { Gives (λ _. reading_view reading.new) result (function_row (reading_view reading.old) line kind name.now words.entry) }
+    ensures { Gives (λ _. reading_view reading.new) result
+        (function_row (reading_view reading.old) line kind name.now words.entry) }
 {
     if is_read(kind, name) {
         if let Some(other) = function_line(kind, name, &reading.parts.functions) {
@@ -180,20 +188,19 @@ fn function_row(
     Ok(())
 }
 
-// `X Y NAME`
-fn name_row(
+/// A wire has a name at the place of these coordinates.
+pub fn push_name(
     alloc: Global,
     reading: &mut Reading,
     line: u32,
     wire: u32,
-    first: &[u8],
-    mut words: PlainWords<'_>,
+    at: (u32, u32),
+    name: &[u8],
 ) -> Result<(), ChipStop>
-    ensures { Gives (λ _. reading_view reading.new) result (name_row (reading_view reading.old) line wire (first.now ∷ words.entry)) }
+    ensures { Gives (λ _. reading_view reading.new) result
+        (name_comes (reading_view reading.old) line wire at name.now) }
 {
-    let (x, y) = two_from(line, first, &mut words)?;
-    let name = one_word(line, words)?;
-    let tile = tile_in(line, &reading.parts, x, y)?;
+    let tile = tile_in(line, &reading.parts, at.0, at.1)?;
     let name = WireText::new(alloc, name)?;
     reading.parts.names.push(NameRow {
         wire: WireNo(wire),
@@ -204,6 +211,23 @@ fn name_row(
     Ok(())
 }
 
+// `X Y NAME`
+fn name_row(
+    alloc: Global,
+    reading: &mut Reading,
+    line: u32,
+    wire: u32,
+    first: &[u8],
+    mut words: PlainWords<'_>,
+) -> Result<(), ChipStop>
+    ensures { Gives (λ _. reading_view reading.new) result
+        (name_row (reading_view reading.old) line wire (first.now ∷ words.entry)) }
+{
+    let at = two_from(line, first, &mut words)?;
+    let name = one_word(line, words)?;
+    push_name(alloc, reading, line, wire, at, name)
+}
+
 /// A row of these values from this source joins the group that is open.
 pub fn push_row(
     reading: &mut Reading,
@@ -211,7 +235,8 @@ pub fn push_row(
     values: ValueList,
     source: u32,
 ) -> Result<(), ChipStop>
-    ensures { Gives (λ _. reading_view reading.new) result (row_joins (reading_view reading.old) line values.items source) }
+    ensures { Gives (λ _. reading_view reading.new) result
+        (row_joins (reading_view reading.old) line values.items source) }
 {
     if reading.rows >= MOST_ROWS {
         return Err(ChipStop::Fault(ChipFault::TooMany { limit: MOST_ROWS }));
@@ -233,7 +258,8 @@ fn switch_row(
     digits: &[u8],
     mut words: PlainWords<'_>,
 ) -> Result<(), ChipStop>
-    ensures { Gives (λ _. reading_view reading.new) result (switch_row (reading_view reading.old) line digits.now words.entry) }
+    ensures { Gives (λ _. reading_view reading.new) result
+        (switch_row (reading_view reading.old) line digits.now words.entry) }
 {
     let source = number(line, &mut words)?;
     ended(line, words)?;
@@ -250,7 +276,8 @@ pub fn row_line(
     first: &[u8],
     words: PlainWords<'_>,
 ) -> Result<(), ChipStop>
-    ensures { Gives (λ _. reading_view reading.new) result (row_says (reading_view reading.old) line reading.old.section first.now words.entry) }
+    ensures { Gives (λ _. reading_view reading.new) result
+        (row_says (reading_view reading.old) line reading.old.section first.now words.entry) }
 {
     match reading.section {
         Section::Rowless => Err(ChipStop::Fault(ChipFault::BadNumber { line })),

@@ -1,7 +1,8 @@
 -- The words of the lines of a text are words.
 use Rattle.std.proofs.Common.{◌≡◌, ℕ, ◌<◌, Bool, true, false, cond, List, [], ◌∷◌, length, filter, refl, sym, subst, rules, tests}
 use Rattle.std.specs.List.{AllByRecursion}
-use Rattle.ice_base.specs.Text.{onto_first, pieces, words, ends_word, IsWord, begins_with, uncommented, with_words, plain_lines}
+use Rattle.ice_base.specs.Text.{onto_first, pieces, words, ends_word, begins_with, uncommented, with_words, plain_lines}
+use Rattle.ice_base.specs.Lines.{IsWord}
 use Rattle.ice_base.proofs.Cuts.{some_bytes, piece_step, piece_end, no_pieces, words_are}
 use Rattle.ice_base.proofs.TextLaws.{GoesOn}
 

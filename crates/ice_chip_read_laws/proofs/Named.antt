@@ -5,11 +5,13 @@ use Rattle.std.specs.List.{AllByRecursion}
 use Rattle.std.specs.Map.{lookup}
 use Rattle.std.proofs.lemmas.List.Elements.{All-from_recursion}
 use Rattle.ice_base.specs.Places.{bits_named}
-use Rattle.ice_base.specs.Text.{lines, numbered, IsWord, begins_with, plain_lines}
+use Rattle.ice_base.specs.Text.{lines, numbered, begins_with, plain_lines}
+use Rattle.ice_base.specs.Lines.{IsWord}
 use Rattle.ice_base_values.specs.Order.{Has}
 use Rattle.ice_base_values.proofs.Members.{Has_all}
 use Rattle.ice_chip.specs.Answers.{unless_fault, chip_of}
-use Rattle.ice_chip.specs.Database.{Parts, SwitchGroup, PackageRows, most_places, most_wires, most_rows, columns, tile_known}
+use Rattle.ice_chip.specs.Database.{Parts, SwitchGroup, PackageRows, columns, tile_known}
+use Rattle.ice_chip.specs.Limits.{most_places, most_wires, most_rows}
 use Rattle.ice_chip.specs.Functions.{is_read, is_foreign, function_line}
 use Rattle.ice_chip.specs.Whole.{whole_fault}
 use Rattle.ice_chip.specs.declared.fault.ChipFault.{ChipFault}
@@ -22,7 +24,8 @@ use Rattle.ice_chip_read.specs.declared.section.Section.TheVariants as section
 use Rattle.ice_chip_read.specs.declared.section.Heading.{Heading}
 use Rattle.ice_chip_read.specs.declared.section.Heading.TheVariants as heading
 use Rattle.ice_chip_read.specs.Faults.{◌>>=◌}
-use Rattle.ice_chip_read.specs.Words.{padin_global, number, two, three, no_word_left, heading_of}
+use Rattle.ice_chip_read.specs.Words.{number, two, three, no_word_left, heading_of}
+use Rattle.ice_chip.specs.Names.{padin_global}
 use Rattle.ice_chip_read.specs.Lines.{tile_in, pad_in, wire_in, global_in, unseen, one_word, sizes_in, begun_within, device_first, new_tile, bits_at, group_bits, heading_says, with_pin, kept_function, function_row, extra_row, values_at, with_row, row_says, with_closed, chip_line_says, chip_lines_say, first_says, plain_says, chip_text_says}
 use Rattle.ice_chip_read.specs.Reading.{Reading, begun, parts_closed}
 use Rattle.ice_chip_read.specs.Whole.{chip_says}

@@ -3,7 +3,8 @@ use Rattle.std.proofs.Common.{◌≡◌, ◌∙◌, ℕ, Bool, true, false, Opti
 use Rattle.std.specs.Prelude.{codes}
 use Rattle.std.specs.Option.{option_and_then}
 use Rattle.ice_base.specs.Text.{lines, numbered, begins_with, plain_lines}
-use Rattle.ice_chip.specs.Database.{Parts, most_places, most_wires}
+use Rattle.ice_chip.specs.Database.{Parts}
+use Rattle.ice_chip.specs.Limits.{most_places, most_wires}
 use Rattle.ice_chip.specs.declared.fault.ChipFault.{ChipFault}
 use Rattle.ice_chip.specs.declared.fault.ChipFault.TheVariants.{NoDevice, BadName, TooMany}
 use Rattle.ice_chip_read.specs.Words.{three, no_word_left, heading_of}

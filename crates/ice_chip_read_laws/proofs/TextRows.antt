@@ -5,9 +5,10 @@ use Rattle.std.specs.Map.{lookup}
 use Rattle.std.specs.Option.{option_and_then, option_map_or}
 use Rattle.indexmap.specs.IndexSet.{insert_key}
 use Rattle.ice_base.specs.Places.{tile_at, bits_named, values_in}
-use Rattle.ice_base.specs.declared.number.BitAt.{BitAt}
+use Rattle.ice_base.specs.declared.bit.BitAt.{BitAt}
 use Rattle.ice_base.specs.declared.number.TileAt.{TileAt}
-use Rattle.ice_chip.specs.Database.{Parts, SwitchGroup, PackageRows, most_rows, columns, same_pad}
+use Rattle.ice_chip.specs.Database.{Parts, SwitchGroup, PackageRows, columns, same_pad}
+use Rattle.ice_chip.specs.Limits.{most_rows}
 use Rattle.ice_chip.specs.Functions.{is_read, is_foreign, function_line}
 use Rattle.ice_chip.specs.declared.fault.ChipFault.TheVariants.{BadValues, TooMany}
 use Rattle.ice_chip.specs.declared.rows.Pad.{Pad}
@@ -15,7 +16,8 @@ use Rattle.ice_chip.specs.declared.rows.TileKind.{TileKind}
 use Rattle.ice_chip_read.specs.declared.section.Section.{Section}
 use Rattle.ice_chip_read.specs.declared.section.Section.TheVariants as section
 use Rattle.ice_chip_read.specs.Faults.{◌>>=◌}
-use Rattle.ice_chip_read.specs.Words.{padin_global, number, two, three, no_word_left}
+use Rattle.ice_chip_read.specs.Words.{number, two, three, no_word_left}
+use Rattle.ice_chip.specs.Names.{padin_global}
 use Rattle.ice_chip_read.specs.Lines.{tile_in, pad_in, wire_in, global_in, unseen, one_word, bits_at, with_pin, kept_function, extra_row, known_values, values_at, with_row, row_says}
 use Rattle.ice_chip_read.specs.Reading.{Reading}
 use Rattle.ice_chip_read_laws.specs.ChipText.{Package, Group, Plain, all_numbers, pad_said, of_numbers, gbufin_row, gbufpin_row, ieren_row, colbuf_row, padin_row, extra_bits_row, bits_row, net_row, pin_joins, pins_row, buffer_row, row_joins}

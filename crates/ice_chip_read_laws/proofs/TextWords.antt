@@ -2,7 +2,7 @@
 use Rattle.std.proofs.Common.{◌≡◌, ◌∙◌, ℕ, ◌&&◌, Bool, true, false, Option, None, Some, List, [], ◌∷◌, IfOk, Ok, Err, refl, ap, nat_lt, if◌then◌else◌}
 use Rattle.ice_base.specs.Places.{tile_at}
 use Rattle.ice_base.specs.Text.{number_in}
-use Rattle.ice_base.specs.declared.number.BitAt.{BitAt}
+use Rattle.ice_base.specs.declared.bit.BitAt.{BitAt}
 use Rattle.ice_base.specs.declared.number.TileAt.{TileAt}
 use Rattle.ice_chip.specs.Database.{Parts}
 use Rattle.ice_chip.specs.declared.fault.ChipFault.TheVariants.{OutOfRange}

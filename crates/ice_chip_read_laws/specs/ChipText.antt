@@ -14,7 +14,7 @@ use Rattle.ice_chip.specs.declared.rows.TileKind.{TileKind}
 use Rattle.ice_chip.specs.declared.rows.TileKind.TheVariants.{Io, Logic, RamBottom, RamTop}
 use Rattle.ice_chip.specs.declared.rows.Pad.{Pad}
 use Rattle.ice_chip_read.specs.Lines.{chip_text_says}
-use Rattle.ice_chip_read.specs.Words.{padin_global}
+use Rattle.ice_chip.specs.Names.{padin_global}
 
 -- ---- words
 -- the numbers that words write, where each of them writes one

@@ -1,6 +1,6 @@
 -- The names of pins, in a chip that a text says.
 use Rattle.std.specs.Prelude.{◌≡◌, ℕ, List, Ok, All}
-use Rattle.ice_base.specs.Text.{IsWord}
+use Rattle.ice_base.specs.Lines.{IsWord}
 use Rattle.ice_base_values.specs.Order.{Has}
 use Rattle.ice_chip.specs.Database.{Parts, PackageRows}
 use Rattle.ice_chip.specs.declared.rows.Pad.{Pad}

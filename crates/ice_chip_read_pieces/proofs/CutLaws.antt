@@ -1,7 +1,8 @@
 -- Texts that are cut behind their last line feed, and the lines of such texts.
 use Rattle.std.proofs.Common.{◌≡◌, ℕ, List, [], ◌∷◌, ◌++◌, refl, sym, ap, ◌∙◌, append_assoc, append-nil, arith}
 use Rattle.std.specs.List.{AllByRecursion}
-use Rattle.ice_base.specs.Text.{IsLine, lines, numbered, text_of_lines, next_number, words, uncommented, plain_lines, with_words}
+use Rattle.ice_base.specs.Text.{lines, numbered, next_number, words, uncommented, plain_lines, with_words}
+use Rattle.ice_base.specs.Lines.{IsLine, text_of_lines}
 use Rattle.ice_base.proofs.TextLaws.{first_line, last_line, no_lines_left, no_words_left}
 use Rattle.ice_base.proofs.Pieces.{text_join}
 use Rattle.ice_chip_read_pieces.specs.Cut.{IsCut, number_behind}

@@ -3,7 +3,7 @@ use Rattle.std.proofs.Common.{◌≡◌, ℕ, ◌<◌, ◌≤◌, ◌+◌, ◌-�
 use Rattle.std.proofs.lemmas.Bool.{eqb-true, eq-eqb}
 use Rattle.std.proofs.lemmas.List.{take_all}
 use Rattle.memchr.specs.Find.{Nowhere, Passes, IsFirstByte, is_byte}
-use Rattle.ice_base.specs.Text.{IsLine}
+use Rattle.ice_base.specs.Lines.{IsLine}
 
 line_in_front : (piece : List ℕ) (k : ℕ) → k ≤ length piece → Nowhere (Passes (is_byte 10) piece) 0 k → IsLine (take k piece)
 line_in_front piece zero le h = tt

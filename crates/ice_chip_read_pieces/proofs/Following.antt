@@ -1,6 +1,7 @@
 -- What is held of a text, line after line.
 use Rattle.std.proofs.Common.{◌≡◌, ℕ, List, [], ◌∷◌, ◌++◌, length, Option, None, Ok, Err, refl, sym, ap, subst, ◌∙◌, append_assoc, append-nil}
-use Rattle.ice_base.specs.Text.{IsLine, numbered, next_number, plain_lines, plain_lines_of}
+use Rattle.ice_base.specs.Text.{numbered, next_number, plain_lines}
+use Rattle.ice_base.specs.Lines.{IsLine, plain_lines_of}
 use Rattle.ice_chip_read.specs.Reading.{Reading}
 use Rattle.ice_chip_read.specs.Whole.{chip_says}
 use Rattle.ice_chip_read.specs.declared.fault.ChipStop.{ChipStop}

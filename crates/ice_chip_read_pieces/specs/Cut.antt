@@ -1,7 +1,8 @@
 -- A text that is cut behind its last line feed.
 use Rattle.std.specs.Prelude.{◌≡◌, ℕ, List, [], ◌∷◌, ◌++◌}
 use Rattle.std.specs.List.{AllByRecursion}
-use Rattle.ice_base.specs.Text.{IsLine, text_of_lines, next_number}
+use Rattle.ice_base.specs.Text.{next_number}
+use Rattle.ice_base.specs.Lines.{IsLine, text_of_lines}
 
 -- the text is these lines, each ended by a line feed, and behind them bytes without one
 pub record IsCut (text : List ℕ) (ended : List (List ℕ)) (rest : List ℕ) : Type 0 where

@@ -1,6 +1,6 @@
 //! Where a piece is cut into lines.
 ghost use Rattle.std.specs.Prelude.{◌≡◌, ◌∷◌, ◌++◌, IfSome, IfNone};
-ghost use Rattle.ice_base.specs.Text.{IsLine};
+ghost use Rattle.ice_base.specs.Lines.{IsLine};
 
 use memchr::memchr;
 

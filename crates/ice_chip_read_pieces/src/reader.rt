@@ -1,6 +1,6 @@
 //! A reader of the text of a chip database that is given the text piece by piece.
 ghost use Rattle.std.specs.Prelude.{◌≡◌, ℕ, List, [], ◌∷◌, ◌++◌, length, OnOk, OnErr, IfOk, IsErr, IsErrOf};
-ghost use Rattle.ice_base.specs.Text.{IsLine};
+ghost use Rattle.ice_base.specs.Lines.{IsLine};
 ghost use Rattle.ice_chip.specs.Answers.{Answers};
 ghost use Rattle.ice_chip_read.specs.Whole.{chip_says};
 ghost use Rattle.ice_chip_read_pieces.specs.Stands.{Follows, StandsFor, IsSpent, IsKept};
@@ -36,7 +36,8 @@ impl Model for ChipReader {
 
     ghost Value = { Held };
 
-    ghost view = { λ r. record { said = said_view r.said; number = r.number; rest = r.rest.items } };
+    ghost view = { λ r.
+        record { said = said_view r.said; number = r.number; rest = r.rest.items } };
 
     ghost invariant = { λ r. IsMade (said_view r.said) };
 }
@@ -75,7 +76,8 @@ impl ChipReader {
     /// # Errors
     /// Want of memory, at this piece or an earlier one.
     pub fn feed(&mut self, piece: &[u8]) -> Result<(), NoMemory>
-        ensures taken { OnOk result (TakesMore (StandsFor self.old) (StandsFor self.new) piece.now) }
+        ensures taken { OnOk result
+            (TakesMore (StandsFor self.old) (StandsFor self.new) piece.now) }
         ensures failed { OnErr result (IsSpent self.new) }
         ensures still { IsSpent self.old → IsErr result }
     {

@@ -65,8 +65,10 @@ pub fn stop(said: &mut Said, stop: ChipStop)
 // One line more, by its bytes. What stopped stays so.
 #[inline(always)]
 fn take_bytes(alloc: Global, said: &mut Said, number: u32, line: &[u8])
-    ensures said { (s : Result (Option lines.Reading) ChipFault) → HasSaid (said_view said.old) s → HasSaid (said_view said.new) (with_text s number (uncommented (words line.now))) }
-    ensures stopped { (stop : ChipStop) → said_view said.old ≡ Err stop → said_view said.new ≡ Err stop }
+    ensures said { (s : Result (Option lines.Reading) ChipFault) → HasSaid (said_view said.old) s
+        → HasSaid (said_view said.new) (with_text s number (uncommented (words line.now))) }
+    ensures stopped { (stop : ChipStop) → said_view said.old ≡ Err stop
+        → said_view said.new ≡ Err stop }
 {
     match said {
         Said::Nothing => take_first_words(alloc, said, number, plain_words_of(line)),
@@ -82,8 +84,10 @@ fn take_bytes(alloc: Global, said: &mut Said, number: u32, line: &[u8])
 /// One line more, of this number. What stopped stays so.
 #[inline(always)]
 pub fn take(alloc: Global, said: &mut Said, number: u32, line: &[u8])
-    ensures said { (ls : List (ℕ × List (List ℕ))) → HasSaid (said_view said.old) (so_far ls) → HasSaid (said_view said.new) (so_far (ls ++ words_at number line.now)) }
-    ensures stopped { (stop : ChipStop) → said_view said.old ≡ Err stop → said_view said.new ≡ Err stop }
+    ensures said { (ls : List (ℕ × List (List ℕ))) → HasSaid (said_view said.old) (so_far ls)
+        → HasSaid (said_view said.new) (so_far (ls ++ words_at number line.now)) }
+    ensures stopped { (stop : ChipStop) → said_view said.old ≡ Err stop
+        → said_view said.new ≡ Err stop }
 {
     take_bytes(alloc, said, number, line);
 }

@@ -9,6 +9,7 @@ use crate::takes::Takes;
 use crate::view::{ClaimLists, ClaimView};
 use atomic_table::{Join, Play, Seat, Split, Table, TableRule};
 use ice_base::{NoMemory, WireNo};
+use ice_words_hands::MOST_SPLITS;
 use std::alloc::Global;
 use std::marker::Model;
 
@@ -39,7 +40,8 @@ impl Play<u64, ClaimView> for Taking {
 struct Giving;
 
 impl Play<u64, ClaimView> for Giving {
-    ghost then = { λ s v n w. (w.0 ≡ with_own (giving (told_net s.said) (s.word - 1)) v.0) × (w.1 ≡ v.1) };
+    ghost then = { λ s v n w.
+        (w.0 ≡ with_own (giving (told_net s.said) (s.word - 1)) v.0) × (w.1 ≡ v.1) };
 }
 
 // A wire's word was read.
@@ -76,7 +78,8 @@ impl Model for Pass {
 
     ghost view = { λ p. grip_of p.seat.table_id p.seat.me.0 };
 
-    ghost invariant = { λ p. (p.seat.me.1 ≡ []) × (1 ≤ length p.seat.me.0.parts) × AreAmong p.seat.table_id.words p.seat.me.0 };
+    ghost invariant = { λ p. (p.seat.me.1 ≡ []) × (1 ≤ length p.seat.me.0.parts)
+        × AreAmong p.seat.table_id.words p.seat.me.0 };
 }
 
 /// A table of nets and wires that threads share: word 0 gives the numbers of nets, and word w + 1 is 1 where wire w is taken, and else 0. Each
@@ -90,9 +93,12 @@ pub struct ClaimTable {
 impl Model for ClaimTable {
     ghost Value = { Board };
 
-    ghost view = { λ t. board_of t.table.shared.table_id t.table.shared.key.wires (nets_of t.table.shared.key) };
+    ghost view = { λ t.
+        board_of t.table.shared.table_id t.table.shared.key.wires (nets_of t.table.shared.key) };
 
-    ghost invariant = { λ t. (t.table.shared.table_id.words ≡ t.table.shared.key.wires + 1) × (t.table.shared.table_id.slots ≡ 0) × (t.nets ≡ length (nets_of t.table.shared.key)) × AreLists t.table.shared.key.wires (nets_of t.table.shared.key) };
+    ghost invariant = { λ t. (t.table.shared.table_id.words ≡ t.table.shared.key.wires + 1)
+        × (t.table.shared.table_id.slots ≡ 0) × (t.nets ≡ length (nets_of t.table.shared.key))
+        × AreLists t.table.shared.key.wires (nets_of t.table.shared.key) };
 }
 
 // A copy of lists of wires.
@@ -143,9 +149,12 @@ impl ClaimTable {
         requires of { IsPassOf self.now pass.old }
         requires going { (own pass.old.view).ended ≡ false }
         ensures of { IsPassOf self.now pass.new }
-        ensures number { IfSome result (λ n. (n < length self.now.lists) × IsAfter n (own pass.old.view).nets × (pass.new.view ≡ with_own (claiming n) pass.old.view)) }
+        ensures number { IfSome result (λ n.
+            (n < length self.now.lists) × IsAfter n (own pass.old.view).nets
+            × (pass.new.view ≡ with_own (claiming n) pass.old.view)) }
         ensures none { IfNone result (pass.new.view ≡ with_own ending pass.old.view) }
-        ensures lone { IsLone pass.old.view → total ends_of pass.old.view ≡ 0 → IfSome result (λ n. n ≡ total claims pass.old.view) }
+        ensures lone { IsLone pass.old.view → total ends_of pass.old.view ≡ 0
+            → IfSome result (λ n. n ≡ total claims pass.old.view) }
     {
         let n = self.table.shared.fetch_add::<Drawing>(&mut pass.seat, 0, 1);
         if n >= u64::from(self.nets) {
@@ -164,8 +173,11 @@ impl ClaimTable {
         requires new { total (takes_pair net wire.0) pass.old.view ≡ 0 }
         ensures of { IsPassOf self.now pass.new }
         ensures taken { result ≡ true → pass.new.view ≡ with_own (taking net wire.0) pass.old.view }
-        ensures lost { result ≡ false → (pass.new.view ≡ with_own (losing net wire.0) pass.old.view) × IsShared self.now.lists net wire.0 }
-        ensures lone { IsLone pass.old.view → total (takes_on wire.0) pass.old.view ≡ 0 → result ≡ true }
+        ensures lost { result ≡ false
+            → (pass.new.view ≡ with_own (losing net wire.0) pass.old.view)
+            × IsShared self.now.lists net wire.0 }
+        ensures lone { IsLone pass.old.view → total (takes_on wire.0) pass.old.view ≡ 0
+            → result ≡ true }
     {
         let told = u64::from(net);
         let word = wire.0 as usize + 1;
@@ -196,7 +208,8 @@ impl ClaimTable {
         requires wire { wire.0 < self.now.wires }
         ensures view { pass.new ≡ pass.old }
         ensures own { 1 ≤ total (takes_on wire.0) pass.old.view → result ≡ true }
-        ensures lone { IsLone pass.old.view → result ≡ true → 1 ≤ total (takes_on wire.0) pass.old.view }
+        ensures lone { IsLone pass.old.view → result ≡ true
+            → 1 ≤ total (takes_on wire.0) pass.old.view }
     {
         let found = self
             .table
@@ -209,7 +222,7 @@ impl ClaimTable {
     pub fn split(&self, pass: &mut Pass) -> Pass
         requires of { IsPassOf self.now pass.old }
         requires main { pass.old.view.main ≡ 1 }
-        requires few { pass.old.view.splits < 65535 }
+        requires few { pass.old.view.splits < MOST_SPLITS }
         ensures of { IsPassOf self.now pass.new × IsPassOf self.now result }
         ensures view { pass.new.view ≡ with_worker pass.old.view }
         ensures new { result.view ≡ worker_view pass.old.view }

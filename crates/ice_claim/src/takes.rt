@@ -17,7 +17,8 @@ impl Model for Takes {
 
     ghost view = { λ t. drop 1 (slots_items t.closed.words) };
 
-    ghost invariant = { λ t. (1 ≤ slots_len t.closed.words) × IsFull t.closed.words × (slots_len t.closed.slots ≡ 0) };
+    ghost invariant = { λ t.
+        (1 ≤ slots_len t.closed.words) × IsFull t.closed.words × (slots_len t.closed.slots ≡ 0) };
 }
 
 impl Drop for Takes {

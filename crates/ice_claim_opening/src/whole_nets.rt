@@ -31,7 +31,8 @@ fn put(kept: &mut Vec<Kept>, n: usize, one: Kept)
 // Puts the wire in the place of the net, where it lost one.
 fn mark_one(kept: &mut Vec<Kept>, note: Note)
     requires { note.net < length kept.old.items }
-    ensures lost { IfSome note.lost (λ wire. kept.new.items ≡ set kept.old.items note.net (Lost wire)) }
+    ensures lost { IfSome note.lost (λ wire.
+        kept.new.items ≡ set kept.old.items note.net (Lost wire)) }
     ensures kept { IfNone note.lost (kept.new.items ≡ kept.old.items) }
 {
     let Some(wire) = note.lost else {

@@ -21,10 +21,16 @@ fn take_all(table: &ClaimTable, pass: &mut Pass, net: u32, list: &[WireNo]) -> O
     requires claimed { 1 ≤ total (claims_on net) pass.old.view }
     requires none { (w : ℕ) → total (takes_pair net w) pass.old.view ≡ 0 }
     ensures of { IsPassOf table.now pass.new }
-    ensures all { IfNone result (pass.new.view ≡ with_own (took net (numbers list.now)) pass.old.view) }
-    ensures until { IfSome result (λ k. (k < length list.now) × (pass.new.view ≡ with_own (took_until net (take k (numbers list.now)) (slice_index (numbers list.now) k)) pass.old.view)) }
-    ensures shared { IfSome result (λ k. IsShared table.now.lists net (slice_index (numbers list.now) k)) }
-    ensures lone { IsLone pass.old.view → IfSome result (λ k. 1 ≤ total (takes_on (slice_index (numbers list.now) k)) pass.old.view) }
+    ensures all { IfNone result
+        (pass.new.view ≡ with_own (took net (numbers list.now)) pass.old.view) }
+    ensures until { IfSome result (λ k. (k < length list.now) × (pass.new.view
+        ≡ with_own (took_until net (take k (numbers list.now)) (slice_index (numbers list.now) k))
+        pass.old.view)) }
+    ensures shared { IfSome result (λ k.
+        IsShared table.now.lists net (slice_index (numbers list.now) k)) }
+    ensures lone { IsLone pass.old.view
+        → IfSome result (λ k.
+        1 ≤ total (takes_on (slice_index (numbers list.now) k)) pass.old.view) }
 {
     for k in 0..list.len() {
         if !table.take(pass, net, list[k]) {
@@ -43,10 +49,14 @@ fn keep_net(table: &ClaimTable, pass: &mut Pass, net: u32, list: &[WireNo]) -> O
     requires claimed { 1 ≤ total (claims_on net) pass.old.view }
     requires none { (w : ℕ) → total (takes_pair net w) pass.old.view ≡ 0 }
     ensures of { IsPassOf table.now pass.new }
-    ensures kept { IfNone result (pass.new.view ≡ with_own (took net (numbers list.now)) pass.old.view) }
-    ensures given { IfSome result (λ wire. pass.new.view ≡ with_own (losing net wire.0) pass.old.view) }
-    ensures lost { IfSome result (λ wire. (1 ≤ times wire.0 (wires_of table.now.lists net)) × IsShared table.now.lists net wire.0) }
-    ensures lone { IsLone pass.old.view → IfSome result (λ wire. 1 ≤ total (takes_on wire.0) pass.old.view) }
+    ensures kept { IfNone result
+        (pass.new.view ≡ with_own (took net (numbers list.now)) pass.old.view) }
+    ensures given { IfSome result (λ wire.
+        pass.new.view ≡ with_own (losing net wire.0) pass.old.view) }
+    ensures lost { IfSome result (λ wire.
+        (1 ≤ times wire.0 (wires_of table.now.lists net)) × IsShared table.now.lists net wire.0) }
+    ensures lone { IsLone pass.old.view
+        → IfSome result (λ wire. 1 ≤ total (takes_on wire.0) pass.old.view) }
 {
     let Some(found) = take_all(table, pass, net, list) else {
         return None;

@@ -21,7 +21,7 @@ use Rattle.ice_cells.specs.Sets.{FlopCell, sets_of, cells_with}
 use Rattle.ice_cells.specs.declared.cell.Control.{Control}
 use Rattle.ice_cells.specs.Formed.{IsFormed}
 use Rattle.ice_cells.proofs.TableLaws.{get_or-table}
-use Rattle.ice_cluster.specs.Slots.{Stands, AreSlots}
+use Rattle.ice_cluster.specs.Slots.{StandsInSlot, AreSlots}
 use Rattle.ice_cluster.proofs.Counted.{members_of, held_at, groups_tally}
 use Rattle.ice_cluster.proofs.Tallies.{tally, tally_append, at_tally, one_place, has_tally, once_tally, row_tally, high_tally}
 
@@ -108,7 +108,7 @@ slots_length cells le =
     ∙ (λ i. length-map cells (λ (x : ℕ). Some x) i + length-replicate {A = Option ℕ} (8 - length cells) None i)
     ∙ (let e : length cells + (8 - length cells) ≡ 8 = omega arith in e)
 
-stands_back : (groups : List TileCells) (clusters : Clusters) → clusters.list ≡ map with_slots groups → (k i c : ℕ) → Stands clusters k i c → StandsIn groups k i c
+stands_back : (groups : List TileCells) (clusters : Clusters) → clusters.list ≡ map with_slots groups → (k i c : ℕ) → StandsInSlot clusters k i c → StandsIn groups k i c
 stands_back groups clusters e k i c stands =
     let back = map_At with_slots groups k stands.cluster (subst (λ (xs : List Cluster). At xs k stands.cluster) e stands.at) in
     record {
@@ -117,7 +117,7 @@ stands_back groups clusters e k i c stands =
       slot = slot_back (back.0).cells i c (subst (λ (x : Cluster). At x.cells i (Some c)) (sym back.2) stands.slot);
     }
 
-stands_on : (groups : List TileCells) (clusters : Clusters) → clusters.list ≡ map with_slots groups → (k i c : ℕ) → StandsIn groups k i c → Stands clusters k i c
+stands_on : (groups : List TileCells) (clusters : Clusters) → clusters.list ≡ map with_slots groups → (k i c : ℕ) → StandsIn groups k i c → StandsInSlot clusters k i c
 stands_on groups clusters e k i c stands = record {
   cluster = with_slots stands.group;
   at = subst (λ (xs : List Cluster). At xs k (with_slots stands.group)) (sym e) (At_map with_slots groups k stands.group stands.at);
@@ -259,12 +259,12 @@ module _ (d : Design) (formed : IsFormed d) (flops : List FlopCell) (plains : Li
       let back = map_At with_slots all_groups k cluster at in
       ap (λ (x : Cluster). length x.cells) (sym back.2) ∙ slots_length (back.0).cells (groups_short d.cells d.runs flops plains k back.0 back.1)
 
-  stands_there : (c : ℕ) → c < n → (k : ℕ) × (i : ℕ) × Stands made k i c
+  stands_there : (c : ℕ) → c < n → (k : ℕ) × (i : ℕ) × StandsInSlot made k i c
   stands_there c lt =
       let there = tally_stands c all_groups (tally_within c lt) in
       (there.0, there.1, stands_on all_groups made refl there.0 there.1 c there.2)
 
-  stands_within : (k i c : ℕ) → Stands made k i c → c < n
+  stands_within : (k i c : ℕ) → StandsInSlot made k i c → c < n
   stands_within k i c a = by (cases_lt c n) (stands_back all_groups made refl k i c a)
     where
       by : (c < n) ⊎ (n ≤ c) → StandsIn all_groups k i c → c < n
@@ -274,7 +274,7 @@ module _ (d : Design) (formed : IsFormed d) (flops : List FlopCell) (plains : Li
           let none = tally_beyond c le in
           absurd (omega arith)
 
-  stands_once : (c k i m j : ℕ) → Stands made k i c → Stands made m j c → (k ≡ m) × (i ≡ j)
+  stands_once : (c k i m j : ℕ) → StandsInSlot made k i c → StandsInSlot made m j c → (k ≡ m) × (i ≡ j)
   stands_once c k i m j a b =
       let one = stands_back all_groups made refl k i c a in
       let two = stands_back all_groups made refl m j c b in

@@ -10,7 +10,7 @@ use Rattle.ice_cells.specs.Formed.{IsFormed}
 use Rattle.ice_cells.specs.Pieces.{control_at}
 
 -- slot i of cluster k has the cell c
-pub record Stands (clusters : Clusters) (k i c : ℕ) : Type 0 where
+pub record StandsInSlot (clusters : Clusters) (k i c : ℕ) : Type 0 where
   pub cluster : Cluster
   pub at : At clusters.list k cluster
   pub slot : At cluster.cells i (Some c)
@@ -18,9 +18,9 @@ pub record Stands (clusters : Clusters) (k i c : ℕ) : Type 0 where
 -- each cluster has eight slots, and each cell of the design stands in exactly one
 pub record AreSlots (d : Design) (clusters : Clusters) : Type 0 where
   pub eight : (k : ℕ) (cluster : Cluster) → At clusters.list k cluster → length cluster.cells ≡ 8
-  pub there : (c : ℕ) → c < length d.cells → (k : ℕ) × (i : ℕ) × Stands clusters k i c
-  pub within : (k i c : ℕ) → Stands clusters k i c → c < length d.cells
-  pub once : (c k i m j : ℕ) → Stands clusters k i c → Stands clusters m j c → (k ≡ m) × (i ≡ j)
+  pub there : (c : ℕ) → c < length d.cells → (k : ℕ) × (i : ℕ) × StandsInSlot clusters k i c
+  pub within : (k i c : ℕ) → StandsInSlot clusters k i c → c < length d.cells
+  pub once : (c k i m j : ℕ) → StandsInSlot clusters k i c → StandsInSlot clusters m j c → (k ≡ m) × (i ≡ j)
 
 -- all flip-flops of a cluster are driven as it says
 abbrev pub AreDriven : Design → Clusters → Type 0

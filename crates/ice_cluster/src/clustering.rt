@@ -34,7 +34,8 @@ fn groups_in(
     flops: &[(u32, Control)],
     plains: &[u32],
 ) -> Result<Vec<TileCells>, NoMemory>
-    ensures { IfOk result (λ groups. groups.items ≡ groups_by cells.now runs.now flops.now plains.now) }
+    ensures { IfOk result (λ groups.
+        groups.items ≡ groups_by cells.now runs.now flops.now plains.now) }
 {
     let mut groups = Vec::new(alloc);
     let rest = open_runs(alloc, &mut groups, cells, runs, plains)?;

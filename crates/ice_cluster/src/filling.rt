@@ -44,8 +44,9 @@ fn open_run<'a>(
     members: &[u32],
     plains: &'a [u32],
 ) -> Result<&'a [u32], NoMemory>
-    ensures { IfOk result (λ rest. (groups.new.items, rest.now)
-        ≡ ends (map (run_piece cells.now r members.now) (range_with_len 0 (pieces_count members.now))) plains.now groups.old.items) }
+    ensures { IfOk result (λ rest. (groups.new.items, rest.now) ≡ ends
+        (map (run_piece cells.now r members.now) (range_with_len 0 (pieces_count members.now)))
+        plains.now groups.old.items) }
 {
     let mut rest = plains;
     for k in 0..pieces_count(members) {
@@ -90,7 +91,8 @@ fn open_set<'a>(
     plains: &'a [u32],
 ) -> Result<&'a [u32], NoMemory>
     ensures { IfOk result (λ rest. (groups.new.items, rest.now)
-        ≡ ends (map (set_piece control members.now) (range_with_len 0 (pieces_count members.now))) plains.now groups.old.items) }
+        ≡ ends (map (set_piece control members.now) (range_with_len 0 (pieces_count members.now)))
+        plains.now groups.old.items) }
 {
     let mut rest = plains;
     for k in 0..pieces_count(members) {

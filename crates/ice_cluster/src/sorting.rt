@@ -51,8 +51,10 @@ fn sort_cell(
     c: u32,
     control: Option<Control>,
 ) -> Result<(), NoMemory>
-    ensures flops { OnOk result (flops.new.items ≡ flops.old.items ++ option_to_list (flop_if is_held c control)) }
-    ensures plains { OnOk result (plains.new.items ≡ plains.old.items ++ option_to_list (plain_if is_held c control)) }
+    ensures flops { OnOk result
+        (flops.new.items ≡ flops.old.items ++ option_to_list (flop_if is_held c control)) }
+    ensures plains { OnOk result
+        (plains.new.items ≡ plains.old.items ++ option_to_list (plain_if is_held c control)) }
 {
     if is_held {
         return Ok(());

@@ -12,7 +12,8 @@ pub fn raise(history: &mut [u64], counts: &[u32])
     requires history { (w : ℕ) → slice_index history.old w < 2 ^ 32 }
     requires counts { (w : ℕ) → slice_index counts.now w ≤ MOST_NETS }
     ensures next { history.new ≡ next_history history.old counts.now }
-    ensures each { (w : ℕ) → w < length history.old → slice_index history.new w ≡ slice_index history.old w + (slice_index counts.now w - 1) }
+    ensures each { (w : ℕ) → w < length history.old
+        → slice_index history.new w ≡ slice_index history.old w + (slice_index counts.now w - 1) }
 {
     for w in 0..counts.len() {
         let rise = counts[w].saturating_sub(1) as u64;

@@ -20,7 +20,8 @@ pub use copies::{old_routes, tree_routes};
 pub use event::Event;
 pub use history::raise;
 pub use limits::{
-    MOST_FACTOR, MOST_HISTORY, MOST_NETS, MOST_OTHERS, MOST_PRICE, MOST_STEPS, MOST_WIRES,
+    MOST_COUNT, MOST_FACTOR, MOST_HISTORY, MOST_NETS, MOST_OTHERS, MOST_PRICE, MOST_STEPS,
+    MOST_WIRES,
 };
 pub use log::RoundLog;
 pub use machine::Core;

@@ -6,6 +6,9 @@ pub const MOST_WIRES: u32 = 1_048_576;
 /// The nets that are routed at a time: up to this number, so that as many hold one wire at most.
 pub const MOST_NETS: u32 = 65_536;
 
+/// The count of a wire at any moment of a round: up to this number, the nets on it at first and all that move.
+pub const MOST_COUNT: u32 = 131_072;
+
 /// The nets that hold a wire beside one: up to this number.
 pub const MOST_OTHERS: u32 = 65_535;
 

@@ -31,9 +31,13 @@ pub struct Core {
 impl Model for Core {
     ghost Value = { Moment };
 
-    ghost view = { λ c. moment_of (lists_of c.olds.items) (lists_of c.news.items) c.number c.counts.items c.up c.down c.workers.items };
+    ghost view = { λ c. moment_of (lists_of c.olds.items) (lists_of c.news.items) c.number
+        c.counts.items c.up c.down c.workers.items };
 
-    ghost invariant = { λ c. IsRunning (moment_of (lists_of c.olds.items) (lists_of c.news.items) c.number c.counts.items c.up c.down c.workers.items) c.workers.items };
+    ghost invariant = { λ c. IsRunning
+        (moment_of (lists_of c.olds.items) (lists_of c.news.items) c.number c.counts.items c.up
+        c.down c.workers.items)
+        c.workers.items };
 }
 
 // The counts, as the core keeps them.
@@ -62,7 +66,11 @@ fn workers_of(alloc: Global, workers: u32, tasks: u32) -> Result<Vec<Progress>, 
 
 // The worker is one of these and may draw a number.
 fn may_claim(olds: &[Vec<WireNo>], news: &[Vec<WireNo>], workers: &[Progress], worker: u32) -> bool
-    ensures { IsTrue result ↔ ((u : Worker) × (slice_get (map (worker_by (lists_of olds.now) (lists_of news.now)) workers.now) worker ≡ Some u) × MayClaim u) }
+    ensures { IsTrue result
+        ↔ ((u : Worker)
+        × (slice_get (map (worker_by (lists_of olds.now) (lists_of news.now)) workers.now) worker
+        ≡ Some u)
+        × MayClaim u) }
 {
     match workers.get(worker as usize) {
         Some(progress) => progress.may_claim(olds, news),
@@ -78,7 +86,11 @@ fn may_release(
     worker: u32,
     wire: WireNo,
 ) -> bool
-    ensures { IsTrue result ↔ ((u : Worker) × (slice_get (map (worker_by (lists_of olds.now) (lists_of news.now)) workers.now) worker ≡ Some u) × MayRelease wire.0 u) }
+    ensures { IsTrue result
+        ↔ ((u : Worker)
+        × (slice_get (map (worker_by (lists_of olds.now) (lists_of news.now)) workers.now) worker
+        ≡ Some u)
+        × MayRelease wire.0 u) }
 {
     match workers.get(worker as usize) {
         Some(progress) => progress.may_release(olds, wire),
@@ -94,7 +106,11 @@ fn may_hold(
     worker: u32,
     wire: WireNo,
 ) -> bool
-    ensures { IsTrue result ↔ ((u : Worker) × (slice_get (map (worker_by (lists_of olds.now) (lists_of news.now)) workers.now) worker ≡ Some u) × MayHold wire.0 u) }
+    ensures { IsTrue result
+        ↔ ((u : Worker)
+        × (slice_get (map (worker_by (lists_of olds.now) (lists_of news.now)) workers.now) worker
+        ≡ Some u)
+        × MayHold wire.0 u) }
 {
     match workers.get(worker as usize) {
         Some(progress) => progress.may_hold(olds, news, wire),
@@ -104,7 +120,10 @@ fn may_hold(
 
 // The worker is one of these.
 fn may_post(olds: &[Vec<WireNo>], news: &[Vec<WireNo>], workers: &[Progress], worker: u32) -> bool
-    ensures { IsTrue result ↔ ((u : Worker) × (slice_get (map (worker_by (lists_of olds.now) (lists_of news.now)) workers.now) worker ≡ Some u)) }
+    ensures { IsTrue result
+        ↔ ((u : Worker)
+        × (slice_get (map (worker_by (lists_of olds.now) (lists_of news.now)) workers.now) worker
+        ≡ Some u)) }
 {
     let (_olds, _news) = (olds, news);
     match workers.get(worker as usize) {
@@ -175,7 +194,8 @@ impl Core {
         requires { Allowed self.old.state (Claim worker) }
         ensures olds { self.new.olds ≡ self.old.olds }
         ensures news { self.new.news ≡ self.old.news }
-        ensures state { self.new.state ≡ next self.old.olds self.old.news self.old.state (Claim worker) }
+        ensures state { self.new.state
+            ≡ next self.old.olds self.old.news self.old.state (Claim worker) }
     {
         let tasks = self.olds.len() as u32;
         self.workers[worker as usize].claim(self.number, tasks);
@@ -187,7 +207,8 @@ impl Core {
         requires { Allowed self.old.state (Release worker wire) }
         ensures olds { self.new.olds ≡ self.old.olds }
         ensures news { self.new.news ≡ self.old.news }
-        ensures state { self.new.state ≡ next self.old.olds self.old.news self.old.state (Release worker wire) }
+        ensures state { self.new.state
+            ≡ next self.old.olds self.old.news self.old.state (Release worker wire) }
     {
         let count = self.counts[wire.0 as usize];
         self.counts[wire.0 as usize] = count.saturating_sub(1);
@@ -199,7 +220,8 @@ impl Core {
         requires { Allowed self.old.state (Hold worker wire) }
         ensures olds { self.new.olds ≡ self.old.olds }
         ensures news { self.new.news ≡ self.old.news }
-        ensures state { self.new.state ≡ next self.old.olds self.old.news self.old.state (Hold worker wire) }
+        ensures state { self.new.state
+            ≡ next self.old.olds self.old.news self.old.state (Hold worker wire) }
     {
         let count = self.counts[wire.0 as usize];
         self.counts[wire.0 as usize] = count + 1;
@@ -211,7 +233,8 @@ impl Core {
         requires { Allowed self.old.state (Post worker true) }
         ensures olds { self.new.olds ≡ self.old.olds }
         ensures news { self.new.news ≡ self.old.news }
-        ensures state { self.new.state ≡ next self.old.olds self.old.news self.old.state (Post worker true) }
+        ensures state { self.new.state
+            ≡ next self.old.olds self.old.news self.old.state (Post worker true) }
     {
         let posted = self.workers[worker as usize].post(true);
         self.up += posted;
@@ -222,7 +245,8 @@ impl Core {
         requires { Allowed self.old.state (Post worker false) }
         ensures olds { self.new.olds ≡ self.old.olds }
         ensures news { self.new.news ≡ self.old.news }
-        ensures state { self.new.state ≡ next self.old.olds self.old.news self.old.state (Post worker false) }
+        ensures state { self.new.state
+            ≡ next self.old.olds self.old.news self.old.state (Post worker false) }
     {
         let posted = self.workers[worker as usize].post(false);
         self.down += posted;

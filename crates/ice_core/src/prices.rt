@@ -37,7 +37,8 @@ fn price_at(round: u32, history: &[u64], others: &[u32], wire: usize) -> u64
     requires wire { (wire < length history.now) × (length history.now ≤ MOST_WIRES) }
     requires history { (w : ℕ) → slice_index history.now w ≤ MOST_HISTORY }
     requires others { (w : ℕ) → slice_index others.now w ≤ MOST_OTHERS }
-    ensures price { result ≡ (1 + slice_index history.now wire) * (1 + (round - 1) * slice_index others.now wire) }
+    ensures price { result
+        ≡ (1 + slice_index history.now wire) * (1 + (round - 1) * slice_index others.now wire) }
     ensures positive { 1 ≤ result }
     ensures bound { result ≤ MOST_PRICE }
 {

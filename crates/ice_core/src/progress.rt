@@ -36,7 +36,8 @@ fn wire_at(wires: &[WireNo], done: usize) -> Option<WireNo>
 
 // The wire of a task's list that comes behind the first so many.
 fn wire_behind(lists: &[Vec<WireNo>], task: u32, done: usize) -> Option<WireNo>
-    ensures some { IfSome result (λ wire. (rest : List ℕ) × (drop done (wires_of (lists_of lists.now) task) ≡ wire.0 ∷ rest)) }
+    ensures some { IfSome result (λ wire.
+        (rest : List ℕ) × (drop done (wires_of (lists_of lists.now) task) ≡ wire.0 ∷ rest)) }
     ensures none { IfNone result (drop done (wires_of (lists_of lists.now) task) ≡ []) }
 {
     match lists.get(task as usize) {
@@ -63,7 +64,8 @@ impl Progress {
 
     // The worker may draw a number.
     pub fn may_claim(&self, olds: &[Vec<WireNo>], news: &[Vec<WireNo>]) -> bool
-        ensures { IsTrue result ↔ MayClaim (worker_by (lists_of olds.now) (lists_of news.now) self.now) }
+        ensures { IsTrue result
+            ↔ MayClaim (worker_by (lists_of olds.now) (lists_of news.now) self.now) }
     {
         !self.ended
             && wire_behind(olds, self.task, self.released).is_none()
@@ -72,7 +74,8 @@ impl Progress {
 
     // The worker may release the wire.
     pub fn may_release(&self, olds: &[Vec<WireNo>], wire: WireNo) -> bool
-        ensures { (news : List (List ℕ)) → IsTrue result ↔ MayRelease wire.0 (worker_by (lists_of olds.now) news self.now) }
+        ensures { (news : List (List ℕ))
+            → IsTrue result ↔ MayRelease wire.0 (worker_by (lists_of olds.now) news self.now) }
     {
         match wire_behind(olds, self.task, self.released) {
             Some(next) => next.0 == wire.0,
@@ -82,7 +85,8 @@ impl Progress {
 
     // The worker may hold the wire.
     pub fn may_hold(&self, olds: &[Vec<WireNo>], news: &[Vec<WireNo>], wire: WireNo) -> bool
-        ensures { IsTrue result ↔ MayHold wire.0 (worker_by (lists_of olds.now) (lists_of news.now) self.now) }
+        ensures { IsTrue result
+            ↔ MayHold wire.0 (worker_by (lists_of olds.now) (lists_of news.now) self.now) }
     {
         if wire_behind(olds, self.task, self.released).is_some() {
             return false;
@@ -97,7 +101,9 @@ impl Progress {
     pub fn claim(&mut self, number: u32, tasks: u32)
         requires going { self.old.ended ≡ false }
         requires room { HasRoom (tasks - number) self.old }
-        ensures worker { (olds news : List (List ℕ)) → length olds ≡ tasks → worker_by olds news self.new ≡ claiming olds news number (worker_by olds news self.old) }
+        ensures worker { (olds news : List (List ℕ)) → length olds ≡ tasks
+            → worker_by olds news self.new
+            ≡ claiming olds news number (worker_by olds news self.old) }
         ensures room { HasRoom (tasks - (number + 1)) self.new }
     {
         if number < tasks {
@@ -113,7 +119,8 @@ impl Progress {
     // The worker released the next old wire, whose count was this.
     pub fn release(&mut self, count: u64)
         requires { (self.old.released < 2 ^ 63) × (self.old.down < 2 ^ 63) }
-        ensures worker { (olds news : List (List ℕ)) → worker_by olds news self.new ≡ releasing count (worker_by olds news self.old) }
+        ensures worker { (olds news : List (List ℕ))
+            → worker_by olds news self.new ≡ releasing count (worker_by olds news self.old) }
         ensures room { (n : ℕ) → HasRoom n self.old → HasRoom n self.new }
     {
         self.released += 1;
@@ -125,7 +132,8 @@ impl Progress {
     // The worker held the next new wire, whose count was this.
     pub fn hold(&mut self, count: u64)
         requires { (self.old.held < 2 ^ 63) × (self.old.up < 2 ^ 63) }
-        ensures worker { (olds news : List (List ℕ)) → worker_by olds news self.new ≡ holding count (worker_by olds news self.old) }
+        ensures worker { (olds news : List (List ℕ))
+            → worker_by olds news self.new ≡ holding count (worker_by olds news self.old) }
         ensures room { (n : ℕ) → HasRoom n self.old → HasRoom n self.new }
     {
         self.held += 1;
@@ -136,7 +144,8 @@ impl Progress {
 
     // The worker posts one of its numbers, which this gives.
     pub fn post(&mut self, up: bool) -> u64
-        ensures worker { (olds news : List (List ℕ)) → worker_by olds news self.new ≡ posting up (worker_by olds news self.old) }
+        ensures worker { (olds news : List (List ℕ))
+            → worker_by olds news self.new ≡ posting up (worker_by olds news self.old) }
         ensures number { result ≡ (if up then self.old.up else self.old.down) }
         ensures room { (n : ℕ) → HasRoom n self.old → HasRoom n self.new }
     {

@@ -39,7 +39,9 @@ fn moves(round: u32, counts: &[u32], seen: &[u32], wires: &[WireNo]) -> bool
 fn count_one(seen: &mut [u32], marks: &mut [u32], net: u32, wire: u32)
     requires lengths { (length marks.old ≡ length seen.old) × (wire < length seen.old) }
     requires fits { (slice_index seen.old wire ≤ MOST_NETS) × (net < MOST_NETS) }
-    ensures { (places : List ℕ) (wires : List Wire) (k : ℕ) (v : Wire) → slice_get wires k ≡ Some v → v.0 ≡ wire → HaveCounted places net wires k seen.old marks.old → HaveCounted places net wires (k + 1) seen.new marks.new }
+    ensures { (places : List ℕ) (wires : List Wire) (k : ℕ) (v : Wire) → slice_get wires k ≡ Some v
+        → v.0 ≡ wire → HaveCounted places net wires k seen.old marks.old
+        → HaveCounted places net wires (k + 1) seen.new marks.new }
 {
     let mark = net + 1;
     if marks[wire as usize] == mark {
@@ -66,7 +68,8 @@ fn count(seen: &mut [u32], marks: &mut [u32], net: u32, wires: &[WireNo])
 
 // Appends the net where it moves.
 fn add(nets: &mut Vec<NetNo>, net: NetNo, moves: bool) -> Result<(), NoMemory>
-    ensures { OnOk result (nets.new.items ≡ (if moves then nets.old.items ++ net ∷ [] else nets.old.items)) }
+    ensures { OnOk result
+        (nets.new.items ≡ (if moves then nets.old.items ++ net ∷ [] else nets.old.items)) }
 {
     if moves {
         nets.push(net)?;
@@ -139,7 +142,8 @@ fn fill(
 ) -> Result<(), NoMemory>
     requires trees { length trees.now ≤ MOST_NETS }
     requires counts { IsOccupancy counts.now trees.now }
-    requires lengths { (length seen.old ≡ length counts.now) × (length marks.old ≡ length counts.now) }
+    requires lengths { (length seen.old ≡ length counts.now)
+        × (length marks.old ≡ length counts.now) }
     requires seen { (w : ℕ) → slice_index seen.old w ≡ 0 }
     requires marks { (w : ℕ) → slice_index marks.old w ≡ 0 }
     requires nets { nets.old.items ≡ [] }
@@ -169,13 +173,17 @@ fn step(
     marks: &mut [u32],
     nets: &mut Vec<NetNo>,
 ) -> Result<(), NoMemory>
-    requires lengths { (length seen.old ≡ length counts.now) × (length marks.old ≡ length counts.now) }
+    requires lengths { (length seen.old ≡ length counts.now)
+        × (length marks.old ≡ length counts.now) }
     requires wires { AreBelow (length counts.now) wires.now }
     requires net { net < MOST_NETS }
     requires places { (w : ℕ) → w < length seen.old → slice_index seen.old w ≤ net }
     requires low { (w : ℕ) → w < length seen.old → slice_index marks.old w ≤ net }
-    ensures counted { OnOk result (HaveCounted seen.old net wires.now (length wires.now) seen.new marks.new) }
-    ensures nets { OnOk result (nets.new.items ≡ (if list_any (leaves_at round counts.now seen.old) wires.now then nets.old.items ++ record { 0 = net } ∷ [] else nets.old.items)) }
+    ensures counted { OnOk result
+        (HaveCounted seen.old net wires.now (length wires.now) seen.new marks.new) }
+    ensures nets { OnOk result
+        (nets.new.items ≡ (if list_any (leaves_at round counts.now seen.old) wires.now
+        then nets.old.items ++ record { 0 = net } ∷ [] else nets.old.items)) }
 {
     let leaves = moves(round, counts, seen, wires);
     add(nets, NetNo(net), leaves)?;

@@ -5,7 +5,8 @@ use Rattle.std.proofs.lemmas.Bool.{ne_eqb}
 use Rattle.std.proofs.lemmas.List.Elements.{All-head, All-tail}
 use Rattle.ice_chip.specs.Database.{Parts}
 use Rattle.ice_chip.specs.IsRead.{IsRead}
-use Rattle.ice_decode.specs.Direct.{is_set_among, takes_pad, globals, AreDirect}
+use Rattle.ice_decode.specs.Direct.{is_set_among, takes_pad, globals}
+use Rattle.ice_decode.specs.Tables.{AreDirect}
 
 -- no row has a number past all numbers of rows
 not_found : {V : Type 0} (rows : List (ℕ × V)) → All (λ row. row.0 < 8) rows → (n : ℕ) → 8 ≤ n → lookup (nat_eq n) rows ≡ None

@@ -15,7 +15,7 @@ use Rattle.ice_decode.specs.declared.driver.Driver.{Driver}
 use Rattle.ice_decode.specs.declared.driver.Driver.TheVariants.{Nothing, By, Several}
 use Rattle.ice_decode.specs.Drivers.{into, driver_among, driver}
 use Rattle.ice_decode.specs.Tables.{IsBetween, joined, drivers_of, reads_wire, AreSources, contended_among}
-use Rattle.ice_decode.specs.Faults.{or_else, contended_by, first_of, contention}
+use Rattle.ice_decode.specs.FirstFaults.{or_else, contended_by, first_of, contention}
 use Rattle.ice_decode.specs.Refusals.{AreDrivers}
 
 -- a table of a function of the wires

@@ -6,7 +6,7 @@ use Rattle.ice_base_values.specs.Graph.{depends_of}
 use Rattle.ice_chip.specs.Database.{Parts}
 use Rattle.ice_bits.specs.Configuration.{Bits}
 use Rattle.ice_decode.specs.declared.point.Point.{Point}
-use Rattle.ice_decode.specs.Faults.{IsLoop, IsOrderOf, wires_among}
+use Rattle.ice_decode.specs.Loops.{IsLoop, IsOrderOf, wires_among}
 use Rattle.ice_decode.specs.Points.{AreAllPoints, IsGraphOf}
 use Rattle.ice_decode.specs.Reads.{depends_on}
 use Rattle.ice_decode.proofs.Graphs.{order_within, order_long, order_each, points_once, order_after, cycle_of}

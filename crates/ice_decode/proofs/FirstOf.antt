@@ -1,6 +1,6 @@
 -- The first number for which there is something, as the numbers are gone over.
 use Rattle.std.proofs.Common.{◌≡◌, ℕ, suc, ◌+◌, ◌-◌, ◌<◌, ◌≤◌, None, Some, Option, refl, ap, ◌∙◌, arith}
-use Rattle.ice_decode.specs.Faults.{first_of}
+use Rattle.ice_decode.specs.FirstFaults.{first_of}
 
 module _ {A : Type 0} (f : ℕ → Option A) (count i : ℕ) where
   pub first_here : (x : A) → i < count → f i ≡ Some x → first_of f i (count - i) ≡ Some x

@@ -7,12 +7,12 @@ use Rattle.std.proofs.lemmas.Option.{same_Some}
 use Rattle.ice_base.specs.declared.number.TileAt.{TileAt}
 use Rattle.ice_chip.specs.Database.{Parts, same_tile}
 use Rattle.ice_chip.specs.Lookups.{names_of, wire_named, placed_at}
-use Rattle.ice_chip.specs.Names.{is_global_name, global_name}
+use Rattle.ice_chip.specs.Names.{is_global_name}
 use Rattle.ice_chip.specs.PinNames.{is_output_of, is_input_name, is_output_name}
 use Rattle.ice_chip.specs.declared.rows.TileKind.{TileKind}
 use Rattle.ice_chip.specs.declared.rows.TileKind.TheVariants.{Io, Logic, RamBottom, RamTop}
 use Rattle.ice_chip.specs.declared.placed.PlacedName.{PlacedName}
-use Rattle.ice_chip.specs.WireNames.{tile_wire}
+use Rattle.ice_chip.specs.WireNames.{tile_wire, global_name}
 use Rattle.ice_chip.specs.declared.wire_names.TileWire.{TileWire}
 use Rattle.ice_chip.specs.declared.wire_names.TileWire.TheVariants.{Global}
 use Rattle.ice_chip.proofs.Prefixes.{set_number}
@@ -22,7 +22,7 @@ use Rattle.ice_chip_laws.specs.Names.{HasName}
 use Rattle.ice_chip_laws.specs.Pins.{is_pin_in, IsPinOf}
 use Rattle.ice_decode.specs.Drivers.{number_at}
 use Rattle.ice_decode.specs.Meaning.{global_at}
-use Rattle.ice_decode.specs.Faults.{or_else, first_of}
+use Rattle.ice_decode.specs.FirstFaults.{or_else, first_of}
 use Rattle.ice_decode.specs.GlobalNames.{is_named, if_named, global_named}
 use Rattle.ice_base.proofs.Keys.{tile_same, tile_self}
 use Rattle.ice_decode.proofs.Driven.{first_none}

@@ -16,7 +16,8 @@ use Rattle.ice_decode.specs.declared.point.Point.TheVariants.{Wire, Carry}
 use Rattle.ice_decode.specs.Cells.{logic_tiles}
 use Rattle.ice_decode.specs.Reads.{wire_point, count_points, depends_on}
 use Rattle.ice_decode.specs.Meaning.{chip_system, point_level}
-use Rattle.ice_decode.specs.Faults.{HasNoLoop, IsOrderOf}
+use Rattle.ice_decode.specs.Faults.{HasNoLoop}
+use Rattle.ice_decode.specs.Loops.{IsOrderOf}
 use Rattle.ice_decode.proofs.PointPlaces.{wire_at}
 use Rattle.ice_decode.proofs.ReadPoints.{IsReadBy, is_read_by}
 use Rattle.ice_decode.proofs.Valued.{valued}

@@ -9,10 +9,10 @@ use Rattle.ice_base.proofs.Keys.{nat_same, bytes_same}
 use Rattle.ice_base_values.specs.Order.{Has}
 use Rattle.ice_base_values.proofs.Together.{Has_head, Has_tail}
 use Rattle.ice_chip.specs.Database.{Parts}
-use Rattle.ice_chip.specs.Names.{digit, is_global_name, cell_pin, global_name, in_out_enable_name}
+use Rattle.ice_chip.specs.Names.{digit, is_global_name, cell_pin, in_out_enable_name}
 use Rattle.ice_chip.specs.PinNames.{is_output_of, is_input_name, is_output_name}
 use Rattle.ice_chip.specs.Lookups.{kind_at, names_of, wire_named, placed_at}
-use Rattle.ice_chip.specs.WireNames.{cell_wire, tile_wire}
+use Rattle.ice_chip.specs.WireNames.{cell_wire, tile_wire, global_name}
 use Rattle.ice_chip.specs.declared.rows.TileKind.{TileKind}
 use Rattle.ice_chip.specs.declared.rows.TileKind.TheVariants.{Io, Logic, RamBottom, RamTop}
 use Rattle.ice_chip.specs.declared.placed.PlacedName.{PlacedName}

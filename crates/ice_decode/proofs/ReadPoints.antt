@@ -26,7 +26,7 @@ use Rattle.ice_decode.specs.Direct.{takes_pad}
 use Rattle.ice_decode.specs.Drivers.{driver, role_of}
 use Rattle.ice_decode.specs.Reads.{wire_point, points, at_pin, at_pin_of, global_feed, cell_inputs, carry_inputs, role_reads, driven_reads, reads_at, depends_on}
 use Rattle.ice_decode.proofs.PointPlaces.{StandsAs, wire_at, carry_at, point_cases}
-use Rattle.ice_decode.proofs.RolePlaces.{IsCell, Fits, role_fits, cell_there}
+use Rattle.ice_decode.proofs.RolePlaces.{IsCell, IsOfCell, role_of_cell, cell_there}
 use Rattle.ice_decode.proofs.Switches.{driver_between}
 
 -- What is read: a wire of the chip, the carry of a cell of the chip by a wire, or the carry of the cell before by a carry.
@@ -76,7 +76,7 @@ carry_inputs_read parts read t (suc i) =
     pin_read parts (λ _ _. false) read (Carry t (suc i)) t (input_name (suc i) 1) _ (pin_read parts (λ _ _. false) read (Carry t (suc i)) t (input_name (suc i) 2) _
     ((refl, refl), tt))
 
-role_read : (parts : Parts) (bits : Bits) (extras : List (ℕ × ℕ × ℕ)) → IsRead parts → (w : ℕ) (role : Role) → Fits parts role → AllRead (IsReadBy parts (wire_point w)) (role_reads parts bits extras role)
+role_read : (parts : Parts) (bits : Bits) (extras : List (ℕ × ℕ × ℕ)) → IsRead parts → (w : ℕ) (role : Role) → IsOfCell parts role → AllRead (IsReadBy parts (wire_point w)) (role_reads parts bits extras role)
 role_read parts bits extras read w Plain fits = tt
 role_read parts bits extras read w (Output t i) fits =
     cond_both (has_flop parts bits t i) [] (cell_inputs parts t i) (AllRead (IsReadBy parts (wire_point w))) (λ e. tt) (λ e. inputs_read parts bits read (wire_point w) t i)
@@ -90,7 +90,7 @@ role_read parts bits extras read w ClockEnable fits = tt
 
 driven_read : (parts : Parts) (bits : Bits) (extras : List (ℕ × ℕ × ℕ)) → IsRead parts → (w : ℕ) (d : Driver) → driver parts bits w ≡ d
     → AllRead (IsReadBy parts (wire_point w)) (driven_reads parts bits extras (role_of parts w) d)
-driven_read parts bits extras read w Nothing e = role_read parts bits extras read w (role_of parts w) (role_fits parts w)
+driven_read parts bits extras read w Nothing e = role_read parts bits extras read w (role_of parts w) (role_of_cell parts w)
 driven_read parts bits extras read w (By s) e = ((driver_between parts bits w s read e).source, tt)
 driven_read parts bits extras read w (Several first second) e = tt
 

@@ -1,5 +1,5 @@
--- The cells that wires are carries of are cells of the chip.
-use Rattle.std.proofs.Common.{◌≡◌, ◌⊎◌, ℕ, suc, ◌+◌, ◌-◌, ◌*◌, ◌<◌, Bool, true, false, cond, List, [], ◌∷◌, Some, None, Option, inl, inr, refl, ap, sym, subst, filter}
+-- The cells, pads and globals that wires are of, are those of the chip.
+use Rattle.std.proofs.Common.{◌≡◌, ◌⊎◌, ℕ, suc, ◌+◌, ◌-◌, ◌*◌, ◌<◌, Bool, true, false, cond, List, [], ◌∷◌, Some, None, Option, inl, inr, refl, ap, sym, subst, filter, zero, arith}
 use Rattle.std.specs.Prelude.{codes, bytes_eq}
 use Rattle.std.specs.Map.{lookup}
 use Rattle.std.proofs.lemmas.Bool.{cond_both}
@@ -8,6 +8,7 @@ use Rattle.ice_base.specs.declared.number.TileAt.{TileAt}
 use Rattle.ice_chip.specs.Database.{Parts, same_tile, tile_known}
 use Rattle.ice_chip.specs.Lookups.{kind_at, names_of}
 use Rattle.ice_chip.specs.Names.{cell_pin, is_global_name, in_out_enable_name}
+use Rattle.ice_chip.specs.WireNames.{global_name}
 use Rattle.ice_chip.specs.declared.rows.TileLine.{TileLine}
 use Rattle.ice_chip.specs.declared.rows.TileKind.{TileKind}
 use Rattle.ice_chip.specs.declared.rows.TileKind.TheVariants.{Io, Logic, RamBottom, RamTop}
@@ -24,72 +25,97 @@ use Rattle.ice_base.proofs.Keys.{tile_same}
 use Rattle.ice_base.proofs.Options.{option_map_some}
 use Rattle.ice_decode.proofs.PointPlaces.{carry_at}
 use Rattle.ice_decode.proofs.CellDigits.{digit_small}
+use Rattle.ice_chip.specs.declared.rows.Pad.{Pad}
+use Rattle.ice_chip.proofs.Prefixes.{set_number}
 
 -- a cell of a logic tile
 pub record IsCell (parts : Parts) (t : TileAt) (i : ℕ) : Type 0 where
   pub logic : kind_at parts t ≡ Some Logic
   pub below : i < 8
 
--- the cell whose carry a wire is, is there
-abbrev pub Fits : Parts → Role → Type 0
-Fits parts Plain = Unit {0}
-Fits parts (Output t i) = Unit {0}
-Fits parts (LookUp t i) = Unit {0}
-Fits parts (CarryOut t i) = IsCell parts t i
-Fits parts (PadInput pad) = Unit {0}
-Fits parts (Global n) = Unit {0}
-Fits parts (CarryIn t) = Unit {0}
-Fits parts ClockEnable = Unit {0}
+-- a pad of an IO tile
+pub record IsIoPad (parts : Parts) (pad : Pad) : Type 0 where
+  pub io : kind_at parts pad.tile ≡ Some Io
+  pub pio : pad.pio < 2
 
-abbrev FitsIf : Parts → Option Role → Type 0
-FitsIf parts None = Unit {0}
-FitsIf parts (Some role) = Fits parts role
+module _ (parts : Parts) where
+  -- the cell that a role names is one of the chip, and so is the pad or the global
+  abbrev pub IsOfCell : Role → Type 0
+  IsOfCell Plain = Unit {0}
+  IsOfCell (Output t i) = IsCell parts t i
+  IsOfCell (LookUp t i) = IsCell parts t i
+  IsOfCell (CarryOut t i) = IsCell parts t i
+  IsOfCell (PadInput pad) = IsIoPad parts pad
+  IsOfCell (Global n) = n < 8
+  IsOfCell (CarryIn t) = Unit {0}
+  IsOfCell ClockEnable = Unit {0}
 
--- ---- the roles of names
-global_fits : (parts : Parts) (name : List ℕ) → FitsIf parts (global_role name)
-global_fits parts name = cond_both (is_global_name name) (Some (Global (number_at name 10))) None (FitsIf parts) (λ e. tt) (λ e. tt)
+  abbrev IsOfCellIf : Option Role → Type 0
+  IsOfCellIf None = Unit {0}
+  IsOfCellIf (Some role) = IsOfCell role
 
-output_fits : (parts : Parts) (t : TileAt) (i : ℕ) (pin : List ℕ) → kind_at parts t ≡ Some Logic → (i < 8) ⊎ (pin ≡ []) → FitsIf parts (output_role t i pin)
-output_fits parts t i pin logic (inr e) = subst (λ (p : List ℕ). FitsIf parts (output_role t i p)) (sym e) tt
-output_fits parts t i pin logic (inl lt) =
-    cond_both (bytes_eq pin (codes "out")) (Some (Output t i)) _ (FitsIf parts) (λ e. tt)
-    (λ e. cond_both (bytes_eq pin (codes "lout")) (Some (LookUp t i)) _ (FitsIf parts) (λ f. tt)
-    (λ f. cond_both (bytes_eq pin (codes "cout")) (Some (CarryOut t i)) None (FitsIf parts) (λ g. record { logic = logic; below = lt }) (λ g. tt)))
+-- a global has one of eight numbers
+global_digit : (n : ℕ) → n < 8 → number_at (global_name n) 10 ≡ n
+global_digit zero lt = refl
+global_digit (suc zero) lt = refl
+global_digit (suc (suc zero)) lt = refl
+global_digit (suc (suc (suc zero))) lt = refl
+global_digit (suc (suc (suc (suc zero)))) lt = refl
+global_digit (suc (suc (suc (suc (suc zero))))) lt = refl
+global_digit (suc (suc (suc (suc (suc (suc zero)))))) lt = refl
+global_digit (suc (suc (suc (suc (suc (suc (suc zero))))))) lt = refl
+global_digit (suc (suc (suc (suc (suc (suc (suc (suc n)))))))) lt = absurd (omega arith)
 
-or_fits : (parts : Parts) (role : Option Role) (name : List ℕ) → FitsIf parts role → FitsIf parts (or_global role name)
-or_fits parts None name fits = global_fits parts name
-or_fits parts (Some role) name fits = fits
+global_below : (name : List ℕ) → is_global_name name ≡ true → number_at name 10 < 8
+global_below name e =
+    let which = set_number 8 (codes "glb_netwk_") name (omega arith) e in
+    let digit = global_digit which.0 which.1 in
+    subst (λ (k : List ℕ). number_at k 10 < 8) (sym which.2) (subst (λ n. n < 8) (sym digit) which.1)
 
-logic_fits : (parts : Parts) (t : TileAt) (name : List ℕ) → kind_at parts t ≡ Some Logic → FitsIf parts (logic_role t name)
-logic_fits parts t name logic =
-    cond_both (bytes_eq name (codes "carry_in_mux")) (Some (CarryIn t)) _ (FitsIf parts) (λ e. tt)
-    (λ e. cond_both (bytes_eq name (codes "lutff_global/cen")) (Some ClockEnable) _ (FitsIf parts) (λ f. tt)
-    (λ f. or_fits parts (output_role t (number_at name 6) (cell_pin name)) name (output_fits parts t (number_at name 6) (cell_pin name) logic (digit_small name))))
+global_of_cell : (parts : Parts) (name : List ℕ) → IsOfCellIf parts (global_role name)
+global_of_cell parts name = cond_both (is_global_name name) (Some (Global (number_at name 10))) None (IsOfCellIf parts) (λ e. global_below name e) (λ e. tt)
 
-io_fits : (parts : Parts) (t : TileAt) (name : List ℕ) → FitsIf parts (io_role t name)
-io_fits parts t name =
-    cond_both (bytes_eq name (codes "io_0/D_IN_0")) (Some (PadInput (record { tile = t; pio = 0 }))) _ (FitsIf parts) (λ e. tt)
-    (λ e. cond_both (bytes_eq name (codes "io_1/D_IN_0")) (Some (PadInput (record { tile = t; pio = 1 }))) _ (FitsIf parts) (λ f. tt)
-    (λ f. cond_both (bytes_eq name in_out_enable_name) (Some ClockEnable) _ (FitsIf parts) (λ g. tt) (λ g. global_fits parts name)))
+output_of_cell : (parts : Parts) (t : TileAt) (i : ℕ) (pin : List ℕ) → kind_at parts t ≡ Some Logic → (i < 8) ⊎ (pin ≡ []) → IsOfCellIf parts (output_role t i pin)
+output_of_cell parts t i pin logic (inr e) = subst (λ (p : List ℕ). IsOfCellIf parts (output_role t i p)) (sym e) tt
+output_of_cell parts t i pin logic (inl lt) =
+    cond_both (bytes_eq pin (codes "out")) (Some (Output t i)) _ (IsOfCellIf parts) (λ e. record { logic = logic; below = lt })
+    (λ e. cond_both (bytes_eq pin (codes "lout")) (Some (LookUp t i)) _ (IsOfCellIf parts) (λ f. record { logic = logic; below = lt })
+    (λ f. cond_both (bytes_eq pin (codes "cout")) (Some (CarryOut t i)) None (IsOfCellIf parts) (λ g. record { logic = logic; below = lt }) (λ g. tt)))
 
-role_in_fits : (parts : Parts) (t : TileAt) (kind : Option TileKind) (name : List ℕ) → kind_at parts t ≡ kind → FitsIf parts (role_in t kind name)
-role_in_fits parts t None name e = tt
-role_in_fits parts t (Some Io) name e = io_fits parts t name
-role_in_fits parts t (Some Logic) name e = logic_fits parts t name e
-role_in_fits parts t (Some RamBottom) name e = global_fits parts name
-role_in_fits parts t (Some RamTop) name e = global_fits parts name
+or_of_cell : (parts : Parts) (role : Option Role) (name : List ℕ) → IsOfCellIf parts role → IsOfCellIf parts (or_global role name)
+or_of_cell parts None name fits = global_of_cell parts name
+or_of_cell parts (Some role) name fits = fits
 
-either_fits : (parts : Parts) (role : Option Role) (other : Role) → FitsIf parts role → Fits parts other → Fits parts (role_or role other)
-either_fits parts None other fits rest = rest
-either_fits parts (Some role) other fits rest = fits
+logic_of_cell : (parts : Parts) (t : TileAt) (name : List ℕ) → kind_at parts t ≡ Some Logic → IsOfCellIf parts (logic_role t name)
+logic_of_cell parts t name logic =
+    cond_both (bytes_eq name (codes "carry_in_mux")) (Some (CarryIn t)) _ (IsOfCellIf parts) (λ e. tt)
+    (λ e. cond_both (bytes_eq name (codes "lutff_global/cen")) (Some ClockEnable) _ (IsOfCellIf parts) (λ f. tt)
+    (λ f. or_of_cell parts (output_role t (number_at name 6) (cell_pin name)) name (output_of_cell parts t (number_at name 6) (cell_pin name) logic (digit_small name))))
 
-first_fits : (parts : Parts) (names : List PlacedName) → Fits parts (first_role parts names)
-first_fits parts [] = tt
-first_fits parts (n ∷ names) =
-    either_fits parts (role_in n.tile (kind_at parts n.tile) n.name) (first_role parts names) (role_in_fits parts n.tile (kind_at parts n.tile) n.name refl) (first_fits parts names)
+io_of_cell : (parts : Parts) (t : TileAt) (name : List ℕ) → kind_at parts t ≡ Some Io → IsOfCellIf parts (io_role t name)
+io_of_cell parts t name io =
+    cond_both (bytes_eq name (codes "io_0/D_IN_0")) (Some (PadInput (record { tile = t; pio = 0 }))) _ (IsOfCellIf parts) (λ e. record { io = io; pio = omega arith })
+    (λ e. cond_both (bytes_eq name (codes "io_1/D_IN_0")) (Some (PadInput (record { tile = t; pio = 1 }))) _ (IsOfCellIf parts) (λ f. record { io = io; pio = omega arith })
+    (λ f. cond_both (bytes_eq name in_out_enable_name) (Some ClockEnable) _ (IsOfCellIf parts) (λ g. tt) (λ g. global_of_cell parts name)))
 
-pub role_fits : (parts : Parts) (w : ℕ) → Fits parts (role_of parts w)
-role_fits parts w = first_fits parts (names_of parts w)
+in_of_cell : (parts : Parts) (t : TileAt) (kind : Option TileKind) (name : List ℕ) → kind_at parts t ≡ kind → IsOfCellIf parts (role_in t kind name)
+in_of_cell parts t None name e = tt
+in_of_cell parts t (Some Io) name e = io_of_cell parts t name e
+in_of_cell parts t (Some Logic) name e = logic_of_cell parts t name e
+in_of_cell parts t (Some RamBottom) name e = global_of_cell parts name
+in_of_cell parts t (Some RamTop) name e = global_of_cell parts name
+
+either_of_cell : (parts : Parts) (role : Option Role) (other : Role) → IsOfCellIf parts role → IsOfCell parts other → IsOfCell parts (role_or role other)
+either_of_cell parts None other fits rest = rest
+either_of_cell parts (Some role) other fits rest = fits
+
+first_of_cell : (parts : Parts) (names : List PlacedName) → IsOfCell parts (first_role parts names)
+first_of_cell parts [] = tt
+first_of_cell parts (n ∷ names) =
+    either_of_cell parts (role_in n.tile (kind_at parts n.tile) n.name) (first_role parts names) (in_of_cell parts n.tile (kind_at parts n.tile) n.name refl) (first_of_cell parts names)
+
+pub role_of_cell : (parts : Parts) (w : ℕ) → IsOfCell parts (role_of parts w)
+role_of_cell parts w = first_of_cell parts (names_of parts w)
 
 -- ---- the cells are points
 lookup_entry : {K V : Type 0} (test : K → Bool) (entries : List (K × V)) (v : V) → lookup test entries ≡ Some v → (k : K) × Has entries (k, v) × (test k ≡ true)

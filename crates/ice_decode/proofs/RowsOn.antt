@@ -7,8 +7,8 @@ use Rattle.std.proofs.lemmas.Bool.{cond-false}
 use Rattle.std.proofs.lemmas.Option.{slice_get-map, slice_get-get_or}
 use Rattle.ice_chip.specs.Database.{SwitchGroup}
 use Rattle.ice_chip.specs.Views.{row_view, group_view}
-use Rattle.ice_chip.specs.declared.rows.Row.{Row}
-use Rattle.ice_chip.specs.declared.rows.Group.{Group}
+use Rattle.ice_chip.specs.declared.sections.Row.{Row}
+use Rattle.ice_chip.specs.declared.sections.Group.{Group}
 use Rattle.ice_bits.specs.Configuration.{Bits, Configuration, bit_at, bits_of, rows_at}
 use Rattle.ice_bits.specs.Settings.{number_with, row_on}
 use Rattle.ice_decode.specs.Drivers.{switch, switch_at, switch_on}

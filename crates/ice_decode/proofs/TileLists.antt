@@ -6,7 +6,8 @@ use Rattle.std.specs.Option.{is_some}
 use Rattle.std.proofs.lemmas.List.{at_drop_more}
 use Rattle.ice_base.specs.declared.number.TileAt.{TileAt}
 use Rattle.ice_chip.specs.Database.{Parts, FunctionRow}
-use Rattle.ice_chip.specs.Lookups.{tile_of, is_io_kind}
+use Rattle.ice_chip.specs.Lookups.{is_io_kind}
+use Rattle.ice_chip.specs.Listings.{tile_of}
 use Rattle.ice_chip.specs.declared.rows.TileLine.{TileLine}
 use Rattle.ice_chip.specs.declared.rows.Pad.{Pad}
 use Rattle.ice_chip.specs.declared.rows.TileKind.{TileKind}
@@ -16,7 +17,8 @@ use Rattle.ice_decode.specs.Cells.{is_logic, is_logic_tile, logic_tiles}
 use Rattle.ice_bits.specs.Configuration.{Bits}
 use Rattle.ice_decode.specs.Tiles.{logic_among}
 use Rattle.ice_decode.specs.Pads.{pads_in, is_io_tile}
-use Rattle.ice_decode.specs.Faults.{or_else, is_set_in, foreign_in, first_foreign, foreign_function, has_wrong_type, wrong_pad}
+use Rattle.ice_decode.specs.Faults.{is_set_in, has_wrong_type}
+use Rattle.ice_decode.specs.FirstFaults.{or_else, foreign_in, first_foreign, foreign_function, wrong_pad}
 use Rattle.ice_decode.specs.ForeignTiles.{foreign_among}
 use Rattle.ice_decode.specs.PadTiles.{wrong_in, wrong_among}
 

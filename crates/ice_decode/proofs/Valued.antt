@@ -16,7 +16,7 @@ use Rattle.ice_decode.specs.declared.fault.DecodeFault.TheVariants.{Contention, 
 use Rattle.ice_decode.specs.Cells.{logic_tiles}
 use Rattle.ice_decode.specs.Reads.{points, count_points, reads_at}
 use Rattle.ice_decode.specs.Meaning.{makes_at, chip_system, point_level}
-use Rattle.ice_decode.specs.Faults.{IsOrderOf}
+use Rattle.ice_decode.specs.Loops.{IsOrderOf}
 use Rattle.ice_decode.specs.Refusals.{CircuitData, IsCircuitOf, IsFaultless, IsFaultOf}
 use Rattle.ice_decode.specs.declared.point.Point.TheVariants.{Wire}
 use Rattle.ice_decode.proofs.PointPlaces.{cells_long, points_long}

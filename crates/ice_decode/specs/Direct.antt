@@ -1,5 +1,5 @@
 -- Globals that have the level of a pad, by extra bits. An extra bit is a bank and a place.
-use Rattle.std.specs.Prelude.{◌≡◌, ℕ, ◌==◌, ◌&&◌, not, Bool, false, Option, None, Some, List, [], ◌∷◌, find, map, slice_index_or}
+use Rattle.std.specs.Prelude.{ℕ, ◌==◌, ◌&&◌, Bool, false, Option, None, Some, List, [], ◌∷◌, map}
 use Rattle.std.specs.List.{list_any}
 use Rattle.ice_chip.specs.Database.{Parts}
 use Rattle.ice_chip.specs.Lookups.{padin_of}
@@ -20,10 +20,6 @@ is_set_among extras own = list_any (is_extra_of own) extras
 abbrev pub takes_pad : Parts → List (ℕ × ℕ × ℕ) → ℕ → Bool
 takes_pad parts extras n = is_set_among extras (padin_of parts n)
 
--- a table of whether each global has the level of a pad
-abbrev pub AreDirect : Parts → List (ℕ × ℕ × ℕ) → List Bool → Type 0
-AreDirect parts extras direct = (n : ℕ) → slice_index_or direct n false ≡ takes_pad parts extras n
-
 -- ---- extra bits of no global
 -- the numbers of the globals
 abbrev pub globals : List ℕ
@@ -39,7 +35,3 @@ is_own_among own e = list_any (λ o. is_extra_of o e) own
 -- the extra bit is some global's
 abbrev pub is_padin : Parts → ℕ × ℕ × ℕ → Bool
 is_padin parts e = is_own_among (padins parts) e
-
--- the first of these extra bits that is no global's
-abbrev pub foreign_extra : Parts → List (ℕ × ℕ × ℕ) → Option (ℕ × ℕ × ℕ)
-foreign_extra parts extras = find (λ e. not (is_padin parts e)) extras

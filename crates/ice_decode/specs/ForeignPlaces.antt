@@ -1,7 +1,7 @@
 -- The different places of the bits of foreign functions in a tile.
 use Rattle.std.specs.Prelude.{List, [], ◌∷◌, ◌++◌, if◌then◌else◌}
 use Rattle.std.specs.List.{list_any}
-use Rattle.ice_base.specs.declared.number.BitAt.{BitAt}
+use Rattle.ice_base.specs.declared.bit.BitAt.{BitAt}
 use Rattle.ice_chip.specs.Database.{FunctionRow}
 use Rattle.ice_chip.specs.Functions.{is_foreign}
 use Rattle.ice_bits.specs.Configuration.{same_place}

@@ -6,7 +6,8 @@ use Rattle.ice_chip.specs.Database.{Parts, FunctionRow}
 use Rattle.ice_chip.specs.Functions.{is_foreign, same_kind}
 use Rattle.ice_chip.specs.declared.tile.Tile.{Tile}
 use Rattle.ice_bits.specs.Configuration.{Bits}
-use Rattle.ice_decode.specs.Faults.{or_else, counts_in}
+use Rattle.ice_decode.specs.Faults.{counts_in}
+use Rattle.ice_decode.specs.FirstFaults.{or_else}
 
 -- a bit of a foreign function of the tile's kind is set in the tile, where the function counts
 abbrev pub is_set_at : Parts → Bits → Tile → FunctionRow → Bool

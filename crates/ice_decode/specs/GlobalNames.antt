@@ -4,8 +4,8 @@ use Rattle.std.specs.Option.{option_map_or}
 use Rattle.ice_base.specs.declared.number.TileAt.{TileAt}
 use Rattle.ice_chip.specs.Database.{Parts}
 use Rattle.ice_chip.specs.Lookups.{wire_named}
-use Rattle.ice_chip.specs.Names.{global_name}
-use Rattle.ice_decode.specs.Faults.{first_of}
+use Rattle.ice_chip.specs.WireNames.{global_name}
+use Rattle.ice_decode.specs.FirstFaults.{first_of}
 
 -- the wire has the name in the tile
 abbrev pub is_named : Parts → TileAt → List ℕ → ℕ → Bool

@@ -16,7 +16,7 @@ use Rattle.ice_decode.specs.Cells.{logic_tiles}
 use Rattle.ice_decode.specs.Drivers.{driver, row_of}
 use Rattle.ice_decode.specs.Reads.{points, count_points, reads_at}
 use Rattle.ice_decode.specs.Meaning.{makes_at, chip_system, point_level}
-use Rattle.ice_decode.specs.Faults.{IsOrderOf}
+use Rattle.ice_decode.specs.Loops.{IsOrderOf}
 use Rattle.ice_decode.specs.Refusals.{CircuitData, IsCircuitOf, IsFaultless, IsFaultOf}
 
 -- there are as many points as wires, and eight for each logic tile

@@ -6,6 +6,8 @@ pub mod Reads
 pub mod Pads
 pub mod Meaning
 pub mod Faults
+pub mod FirstFaults
+pub mod Loops
 pub mod Refusals
 pub mod Tables
 pub mod GlobalNames

@@ -8,7 +8,8 @@ use Rattle.ice_chip.specs.declared.rows.Pad.{Pad}
 use Rattle.ice_chip.specs.declared.tile.Tile.{Tile}
 use Rattle.ice_bits.specs.Configuration.{Bits}
 use Rattle.ice_decode.specs.Pads.{pads_in}
-use Rattle.ice_decode.specs.Faults.{or_else, has_wrong_type}
+use Rattle.ice_decode.specs.Faults.{has_wrong_type}
+use Rattle.ice_decode.specs.FirstFaults.{or_else}
 
 -- the wire, where there is one, is read by the table
 abbrev pub is_read_in : List Bool → Option WireNo → Bool

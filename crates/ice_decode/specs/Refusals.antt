@@ -11,8 +11,10 @@ use Rattle.ice_decode.specs.declared.fault.DecodeFault.{DecodeFault}
 use Rattle.ice_decode.specs.declared.fault.DecodeFault.TheVariants.{Contention, ForeignSource, ForeignFunction, ForeignExtra, ChipLoop, PinType, NoMemory}
 use Rattle.ice_decode.specs.Drivers.{driver}
 use Rattle.ice_decode.specs.Pads.{pin_type}
-use Rattle.ice_decode.specs.Direct.{AreDirect, foreign_extra}
-use Rattle.ice_decode.specs.Faults.{contention, foreign_source, foreign_function, HasNoLoop, IsLoop, IsOrderOf, wrong_pad}
+use Rattle.ice_decode.specs.Tables.{AreDirect}
+use Rattle.ice_decode.specs.Faults.{HasNoLoop}
+use Rattle.ice_decode.specs.FirstFaults.{contention, foreign_source, foreign_function, wrong_pad, foreign_extra}
+use Rattle.ice_decode.specs.Loops.{IsLoop, IsOrderOf}
 
 -- ---- no fault
 -- the faults of the first four kinds are not there: each extra bit is some global's

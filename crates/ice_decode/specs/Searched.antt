@@ -4,7 +4,7 @@ use Rattle.ice_chip.specs.Database.{Parts}
 use Rattle.ice_bits.specs.Configuration.{Bits}
 use Rattle.ice_decode.specs.declared.evaluation.Found.{Found}
 use Rattle.ice_decode.specs.declared.evaluation.Found.TheVariants.{Order, Loop}
-use Rattle.ice_decode.specs.Faults.{IsLoop, IsOrderOf}
+use Rattle.ice_decode.specs.Loops.{IsLoop, IsOrderOf}
 
 -- an order of evaluation of all points, or a loop
 abbrev pub IsSearched : Parts → Bits → List (ℕ × ℕ × ℕ) → Found → Type 0

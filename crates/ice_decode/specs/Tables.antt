@@ -1,4 +1,4 @@
--- Tables by the numbers of wires.
+-- Tables by the numbers of wires and of globals.
 use Rattle.std.specs.Prelude.{◌≡◌, ℕ, ◌==◌, ◌<◌, Bool, false, Option, List, map, find, length, option_map, slice_index_or}
 use Rattle.std.specs.List.{list_any, range_with_len}
 use Rattle.ice_chip.specs.Database.{Parts}
@@ -6,7 +6,9 @@ use Rattle.ice_decode.specs.declared.driver.Switch.{Switch}
 use Rattle.ice_decode.specs.declared.driver.Driver.{Driver}
 use Rattle.ice_decode.specs.declared.driver.Driver.TheVariants.{Nothing, By, Several}
 use Rattle.ice_decode.specs.Drivers.{into, driver_among}
-use Rattle.ice_decode.specs.Faults.{is_foreign_wire, contended_by, first_of}
+use Rattle.ice_decode.specs.Faults.{is_foreign_wire}
+use Rattle.ice_decode.specs.FirstFaults.{contended_by, first_of}
+use Rattle.ice_decode.specs.Direct.{takes_pad}
 
 -- a row leads from a wire of so many to another
 pub record IsBetween (wires : ℕ) (s : Switch) : Type 0 where
@@ -48,3 +50,7 @@ foreign_wires parts = map (is_foreign_wire parts) (range_with_len 0 parts.wires)
 -- the source of the first of these rows whose source is the output of a memory
 abbrev pub foreign_source_of : Parts → List Switch → Option ℕ
 foreign_source_of parts switches = option_map (λ (s : Switch). s.source.0) (find (λ (s : Switch). is_foreign_wire parts s.source.0) switches)
+
+-- a table of whether each global has the level of a pad
+abbrev pub AreDirect : Parts → List (ℕ × ℕ × ℕ) → List Bool → Type 0
+AreDirect parts extras direct = (n : ℕ) → slice_index_or direct n false ≡ takes_pad parts extras n

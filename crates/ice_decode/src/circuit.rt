@@ -28,7 +28,12 @@ impl Model for Circuit {
 
     ghost Value = { CircuitData };
 
-    ghost view = { λ c. record { configuration = c.bits; drivers = c.drivers.items; direct = c.direct; order = c.order.items } };
+    ghost view = { λ c. record {
+      configuration = c.bits;
+      drivers = c.drivers.items;
+      direct = c.direct;
+      order = c.order.items;
+    } };
 }
 
 impl Circuit {
@@ -48,7 +53,8 @@ impl Circuit {
     pub fn driver(&self, wire: WireNo) -> Option<RowNo>
         requires { wire.0 < length self.now.drivers }
         ensures kept { slice_get (map row_of self.now.drivers) wire.0 ≡ Some result }
-        ensures driver { (parts : Parts) → IsCircuitOf parts self.now.configuration self.now → wire.0 < parts.wires
+        ensures driver { (parts : Parts) → IsCircuitOf parts self.now.configuration self.now
+            → wire.0 < parts.wires
             → IsDriverOf parts (bits_of self.now.configuration) wire.0 result }
     {
         self.row_kept(wire)
@@ -98,8 +104,12 @@ impl Circuit {
         direct: [bool; 8],
         order: Vec<Point>,
     ) -> Circuit
-        ensures { result
-            ≡ record { configuration = bits; drivers = drivers.items; direct = direct; order = order.items } }
+        ensures { result ≡ record {
+          configuration = bits;
+          drivers = drivers.items;
+          direct = direct;
+          order = order.items;
+        } }
     {
         Circuit {
             bits,

@@ -8,7 +8,8 @@ use ice_base::{RowNo, WireNo};
 /// The least wire into which two rows are on, with its first two, by what drives each wire. It takes no memory.
 #[tactic(auto, using(crate::proofs::FirstOf::first_here, crate::proofs::FirstOf::first_next, crate::proofs::FirstOf::first_none))]
 pub(crate) fn contention(drivers: &[Driver]) -> Option<(usize, RowNo, RowNo)>
-    ensures { option_map (λ found. (found.0, found.1.0, found.2.0)) result ≡ contended_among drivers.now }
+    ensures { option_map (λ found. (found.0, found.1.0, found.2.0)) result
+        ≡ contended_among drivers.now }
 {
     for wire in 0..drivers.len() {
         if let Driver::Several(first, second) = drivers[wire] {

@@ -1,10 +1,11 @@
 //! The decoding of bits: the circuit in them, or the first fault.
 ghost use Rattle.std.specs.Prelude.{◌≡◌, None, IfOk, IfErr, OnOk};
 ghost use Rattle.ice_bits.specs.Configuration.{bits_of};
-ghost use Rattle.ice_decode.specs.Direct.{AreDirect};
 ghost use Rattle.ice_decode.specs.Drivers.{switches_on};
-ghost use Rattle.ice_decode.specs.Tables.{AreSources};
-ghost use Rattle.ice_decode.specs.Faults.{contention, wrong_pad, HasNoLoop, IsOrderOf};
+ghost use Rattle.ice_decode.specs.Tables.{AreSources, AreDirect};
+ghost use Rattle.ice_decode.specs.Faults.{HasNoLoop};
+ghost use Rattle.ice_decode.specs.FirstFaults.{contention, wrong_pad};
+ghost use Rattle.ice_decode.specs.Loops.{IsOrderOf};
 ghost use Rattle.ice_decode.specs.Refusals.{AreDrivers, IsOfChip, IsFaultless, IsFaultOf, IsCircuitOf};
 
 use crate::contended::contention;
@@ -76,7 +77,8 @@ fn check_loops(
     requires drivers { AreDrivers chip.now (bits_of bits.now) drivers.now }
     requires direct { AreDirect chip.now bits.now.extras direct.now }
     requires of_chip { IsOfChip chip.now (bits_of bits.now) bits.now.extras }
-    ensures order { IfOk result (λ order. IsOrderOf chip.now (bits_of bits.now) bits.now.extras order.items) }
+    ensures order { IfOk result (λ order.
+        IsOrderOf chip.now (bits_of bits.now) bits.now.extras order.items) }
     ensures loopless { OnOk result (HasNoLoop chip.now (bits_of bits.now) bits.now.extras) }
     ensures fault { IfErr result (IsFaultOf chip.now (bits_of bits.now) bits.now.extras) }
 {
@@ -111,7 +113,8 @@ fn sources_on(
     switches: &[Switch],
 ) -> Result<Vec<bool>, NoMemory>
     requires { switches.now ≡ switches_on (bits_of bits.now) chip.now.groups }
-    ensures { IfOk result (λ sources. AreSources (switches_on (bits_of bits.now) chip.now.groups) sources.items) }
+    ensures { IfOk result (λ sources.
+        AreSources (switches_on (bits_of bits.now) chip.now.groups) sources.items) }
 {
     let _bits = bits;
     let wires = chip.wires();
@@ -133,7 +136,8 @@ fn check(
     requires drivers { AreDrivers chip.now (bits_of bits.now) drivers.now }
     requires direct { AreDirect chip.now bits.now.extras direct.now }
     ensures faultless { OnOk result (IsFaultless chip.now (bits_of bits.now) bits.now.extras) }
-    ensures order { IfOk result (λ order. IsOrderOf chip.now (bits_of bits.now) bits.now.extras order.items) }
+    ensures order { IfOk result (λ order.
+        IsOrderOf chip.now (bits_of bits.now) bits.now.extras order.items) }
     ensures fault { IfErr result (IsFaultOf chip.now (bits_of bits.now) bits.now.extras) }
 {
     check_contention(chip, bits, drivers)?;

@@ -1,6 +1,8 @@
 //! Globals that have the level of a pad, by extra bits, and extra bits of no global.
 ghost use Rattle.std.specs.Prelude.{◌≡◌, map, slice_index_or, false};
-ghost use Rattle.ice_decode.specs.Direct.{is_extra_of, is_set_among, takes_pad, AreDirect, globals, padins, is_own_among, foreign_extra};
+ghost use Rattle.ice_decode.specs.Direct.{is_extra_of, is_set_among, takes_pad, globals, padins, is_own_among};
+ghost use Rattle.ice_decode.specs.Tables.{AreDirect};
+ghost use Rattle.ice_decode.specs.FirstFaults.{foreign_extra};
 
 use ice_bits::Bits;
 use ice_chip::Chip;

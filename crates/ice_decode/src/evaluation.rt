@@ -3,9 +3,9 @@ ghost use Rattle.std.specs.Prelude.{◌≡◌, ◌++◌, length, map, IfOk};
 ghost use Rattle.ice_base_values.specs.Order.{IsOrder, IsSimpleCycle};
 ghost use Rattle.ice_base_values.specs.Graph.{depends_of};
 ghost use Rattle.ice_bits.specs.Configuration.{bits_of};
-ghost use Rattle.ice_decode.specs.Direct.{AreDirect};
+ghost use Rattle.ice_decode.specs.Tables.{AreDirect};
 ghost use Rattle.ice_decode.specs.Reads.{depends_on};
-ghost use Rattle.ice_decode.specs.Faults.{wires_among};
+ghost use Rattle.ice_decode.specs.Loops.{wires_among};
 ghost use Rattle.ice_decode.specs.Refusals.{AreDrivers};
 ghost use Rattle.ice_decode.specs.Points.{AreAllPoints, IsGraphOf};
 ghost use Rattle.ice_decode.specs.Searched.{IsSearched};
@@ -40,7 +40,8 @@ fn graph_of_points(
     requires drivers { AreDrivers chip.now (bits_of bits.now) drivers.now }
     requires direct { AreDirect chip.now bits.now.extras direct.now }
     requires points { AreAllPoints chip.now numbering.now }
-    ensures { IfOk result (IsGraphOf numbering.now (depends_on chip.now (bits_of bits.now) bits.now.extras)) }
+    ensures { IfOk result
+        (IsGraphOf numbering.now (depends_on chip.now (bits_of bits.now) bits.now.extras)) }
 {
     chip.is_chip();
     let mut graph = Graph::new(alloc);
@@ -78,7 +79,8 @@ fn order_at(
     order: &[usize],
 ) -> Result<Found, NoMemory>
     requires points { AreAllPoints chip.now numbering.now }
-    requires graph { IsGraphOf numbering.now (depends_on chip.now (bits_of bits.now) bits.now.extras) graph.now }
+    requires graph { IsGraphOf numbering.now
+        (depends_on chip.now (bits_of bits.now) bits.now.extras) graph.now }
     requires order { IsOrder (length graph.now) (depends_of graph.now) order.now }
     ensures { IfOk result (IsSearched chip.now (bits_of bits.now) bits.now.extras) }
 {
@@ -97,7 +99,8 @@ fn loop_at(
     cycle: &[usize],
 ) -> Result<Found, NoMemory>
     requires points { AreAllPoints chip.now numbering.now }
-    requires graph { IsGraphOf numbering.now (depends_on chip.now (bits_of bits.now) bits.now.extras) graph.now }
+    requires graph { IsGraphOf numbering.now
+        (depends_on chip.now (bits_of bits.now) bits.now.extras) graph.now }
     requires cycle { IsSimpleCycle (length graph.now) (depends_of graph.now) cycle.now }
     ensures { IfOk result (IsSearched chip.now (bits_of bits.now) bits.now.extras) }
 {
@@ -117,7 +120,8 @@ fn found_in(
     graph: &Graph,
 ) -> Result<Found, NoMemory>
     requires points { AreAllPoints chip.now numbering.now }
-    requires graph { IsGraphOf numbering.now (depends_on chip.now (bits_of bits.now) bits.now.extras) graph.now }
+    requires graph { IsGraphOf numbering.now
+        (depends_on chip.now (bits_of bits.now) bits.now.extras) graph.now }
     ensures { IfOk result (IsSearched chip.now (bits_of bits.now) bits.now.extras) }
 {
     match order(alloc, graph)? {

@@ -4,7 +4,8 @@ ghost use Rattle.std.specs.List.{list_any};
 ghost use Rattle.ice_chip.specs.Views.{function_view};
 ghost use Rattle.ice_bits.specs.Configuration.{bits_of};
 ghost use Rattle.ice_decode.specs.Drivers.{switches_on};
-ghost use Rattle.ice_decode.specs.Faults.{is_memory_output, is_foreign_wire, counts_in, foreign_function};
+ghost use Rattle.ice_decode.specs.Faults.{is_memory_output, is_foreign_wire, counts_in};
+ghost use Rattle.ice_decode.specs.FirstFaults.{foreign_function};
 ghost use Rattle.ice_decode.specs.Tables.{IsBetween, AreSources, foreign_wires, foreign_source_of};
 ghost use Rattle.ice_decode.specs.ForeignTiles.{is_set_at, foreign_at};
 ghost use Rattle.ice_decode.specs.ForeignPlaces.{with_places, foreign_places};
@@ -83,7 +84,8 @@ pub(crate) fn foreign_source(
     switches: &[Switch],
 ) -> Result<Option<WireNo>, NoMemory>
     requires { All (IsBetween chip.now.wires) switches.now }
-    ensures { IfOk result (λ source. option_map (λ wire. wire.0) source ≡ foreign_source_of chip.now switches.now) }
+    ensures { IfOk result (λ source.
+        option_map (λ wire. wire.0) source ≡ foreign_source_of chip.now switches.now) }
 {
     let foreign = foreign_wires(alloc, chip)?;
     Ok(first_foreign(chip, &foreign, switches))
@@ -129,7 +131,8 @@ fn foreign_at(
     tile: Tile,
 ) -> Option<u32>
     requires { AreSources (switches_on (bits_of bits.now) chip.now.groups) sources.now }
-    ensures { result ≡ foreign_at chip.now (map function_view functions.now) (bits_of bits.now) tile }
+    ensures { result
+        ≡ foreign_at chip.now (map function_view functions.now) (bits_of bits.now) tile }
 {
     for function in functions {
         if is_set_at(chip, bits, sources, tile, function) {
@@ -151,7 +154,8 @@ fn add_places(places: &mut IndexSet<BitAt>, bits: &[BitAt]) -> Result<(), NoMemo
 
 // The different places of the bits of the foreign ones of these functions.
 fn foreign_places(alloc: Global, functions: &[Function]) -> Result<IndexSet<BitAt>, NoMemory>
-    ensures { IfOk result (λ places. places.keys ≡ foreign_places [] (map function_view functions.now)) }
+    ensures { IfOk result (λ places.
+        places.keys ≡ foreign_places [] (map function_view functions.now)) }
 {
     let mut places = IndexSet::new(alloc);
     for function in functions {
@@ -175,7 +179,8 @@ fn foreign_in(
 ) -> Option<u32>
     requires sources { AreSources (switches_on (bits_of bits.now) chip.now.groups) sources.now }
     requires places { places.now ≡ foreign_places [] (map function_view functions.now) }
-    ensures { result ≡ foreign_at chip.now (map function_view functions.now) (bits_of bits.now) tile }
+    ensures { result
+        ≡ foreign_at chip.now (map function_view functions.now) (bits_of bits.now) tile }
 {
     if !same_kind(TileKind::Io, tile.kind) {
         return None;

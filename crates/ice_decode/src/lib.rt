@@ -23,6 +23,7 @@ mod rows;
 mod settings;
 mod tables;
 mod tiles;
+mod wire_roles;
 mod wires;
 
 pub use buffers::{global_at, passes};
@@ -34,7 +35,8 @@ pub use numbering::Numbering;
 pub use pads::{has_input_register, has_output_register, is_enabled, pin_type};
 pub use point::Point;
 pub use reads::{add_reads, at_pin};
-pub use role::{Role, role_of};
+pub use role::Role;
 pub use settings::{cell_bit, has_carry, has_flop, reset_by, setting};
 pub use tiles::logic_tiles;
+pub use wire_roles::role_of;
 pub use wires::Wires;

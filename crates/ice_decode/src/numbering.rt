@@ -137,7 +137,8 @@ impl Numbering {
     /// Makes a row the numbers of the points that are there.
     pub fn number_all(&self, reads: &[Option<Point>], row: &mut Vec<usize>) -> Result<(), NoMemory>
         requires { All (IsNumbered self.now) reads.now }
-        ensures { OnOk result (map (slice_get self.now) row.new.items ≡ map (λ p. Some p) (present reads.now)) }
+        ensures { OnOk result
+            (map (slice_get self.now) row.new.items ≡ map (λ p. Some p) (present reads.now)) }
     {
         row.clear();
         for read in reads {
@@ -149,7 +150,8 @@ impl Numbering {
     /// The points of these numbers.
     pub(crate) fn points_at(&self, alloc: Global, numbers: &[usize]) -> Result<Vec<Point>, NoMemory>
         requires { All (λ n. n < length self.now) numbers.now }
-        ensures { IfOk result (λ points. map (λ p. Some p) points.items ≡ map (slice_get self.now) numbers.now) }
+        ensures { IfOk result (λ points.
+            map (λ p. Some p) points.items ≡ map (slice_get self.now) numbers.now) }
     {
         let mut points = Vec::new(alloc);
         for number in numbers {

@@ -5,7 +5,8 @@ ghost use Rattle.ice_decode.specs.Drivers.{switches_on};
 ghost use Rattle.ice_decode.specs.Tables.{AreSources};
 ghost use Rattle.std.specs.List.{list_any};
 ghost use Rattle.ice_decode.specs.Pads.{pads_in};
-ghost use Rattle.ice_decode.specs.Faults.{is_output_part, is_input_type, is_input_read, uses_register, has_wrong_type, wrong_pad};
+ghost use Rattle.ice_decode.specs.Faults.{is_output_part, is_input_type, is_input_read, uses_register, has_wrong_type};
+ghost use Rattle.ice_decode.specs.FirstFaults.{wrong_pad};
 ghost use Rattle.ice_decode.specs.PadTiles.{is_read_in, wrong_in};
 
 use crate::pads::{has_input_register, has_output_register, pin_type};

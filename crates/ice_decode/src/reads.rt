@@ -4,14 +4,15 @@ ghost use Rattle.ice_bits.specs.Configuration.{bits_of};
 ghost use Rattle.ice_chip.specs.Names.{input_name};
 ghost use Rattle.ice_decode.specs.Drivers.{driver, role_of};
 ghost use Rattle.ice_decode.specs.Cells.{has_flop};
-ghost use Rattle.ice_decode.specs.Direct.{takes_pad, AreDirect};
+ghost use Rattle.ice_decode.specs.Direct.{takes_pad};
+ghost use Rattle.ice_decode.specs.Tables.{AreDirect};
 ghost use Rattle.ice_decode.specs.Reads.{at_pin, cell_inputs, carry_into, carry_inputs, global_feed, role_reads, driven_reads, reads_at};
 ghost use Rattle.ice_decode.specs.Refusals.{AreDrivers};
 ghost use Rattle.ice_decode.specs.Points.{HasWire};
 
 use crate::direct::takes_pad;
-use crate::role::role_of;
 use crate::settings::{has_carry, has_flop};
+use crate::wire_roles::role_of;
 use crate::{Driver, Point, Role};
 use ice_base::{NoMemory, TileAt, WireNo};
 use ice_bits::Bits;
@@ -96,8 +97,9 @@ fn add_output_reads(
     cell: u8,
     inputs: &mut Vec<Option<Point>>,
 ) -> Result<(), NoMemory>
-    ensures { OnOk result (inputs.new.items
-        ≡ inputs.old.items ++ (if has_flop chip.now (bits_of bits.now) tile cell then [] else cell_inputs chip.now tile cell)) }
+    ensures { OnOk result
+        (inputs.new.items ≡ inputs.old.items ++ (if has_flop chip.now (bits_of bits.now) tile cell
+        then [] else cell_inputs chip.now tile cell)) }
 {
     if has_flop(chip, bits, tile, cell) {
         return Ok(());
@@ -114,8 +116,9 @@ fn add_global_reads(
     inputs: &mut Vec<Option<Point>>,
 ) -> Result<(), NoMemory>
     requires { AreDirect chip.now bits.now.extras direct.now }
-    ensures { OnOk result (inputs.new.items
-        ≡ inputs.old.items ++ (if takes_pad chip.now bits.now.extras global then [] else global_feed chip.now global ∷ [])) }
+    ensures { OnOk result
+        (inputs.new.items ≡ inputs.old.items ++ (if takes_pad chip.now bits.now.extras global
+        then [] else global_feed chip.now global ∷ [])) }
 {
     if takes_pad(chip, bits, direct, global) {
         return Ok(());
@@ -159,8 +162,8 @@ fn add_wire_reads(
 ) -> Result<(), NoMemory>
     requires direct { AreDirect chip.now bits.now.extras direct.now }
     requires wire { wire.0 < chip.now.wires }
-    ensures { OnOk result (inputs.new.items
-        ≡ inputs.old.items ++ driven_reads chip.now (bits_of bits.now) bits.now.extras (role_of chip.now wire.0) driver) }
+    ensures { OnOk result (inputs.new.items ≡ inputs.old.items ++ driven_reads chip.now
+        (bits_of bits.now) bits.now.extras (role_of chip.now wire.0) driver) }
 {
     match driver {
         Driver::Several(_, _) => Ok(()),

@@ -3,7 +3,7 @@ ghost use Rattle.std.specs.Prelude.{◌≡◌, ◌<◌, ◌≤◌, ◌+◌, ◌+
 ghost use Rattle.std.specs.Bool.{beq};
 ghost use Rattle.std.specs.List.{list_any};
 ghost use Rattle.std.specs.Cmp.Lexicographic.{pointwise};
-ghost use Rattle.ice_chip.specs.Database.{most_rows};
+ghost use Rattle.ice_chip.specs.Limits.{most_rows};
 ghost use Rattle.ice_chip.specs.Views.{group_view};
 ghost use Rattle.ice_bits.specs.Configuration.{bits_of, bit_in};
 ghost use Rattle.ice_bits.specs.Settings.{number_with, row_on};
@@ -46,7 +46,8 @@ fn have_values(tile: &TileBits, bits: &[BitAt], values: &[bool]) -> bool
 // The place of the first row of a group whose values the bits have.
 fn place_with(tile: &TileBits, group: &Group) -> Option<usize>
     ensures number { option_map (λ place. group.now.first.0 + place) result
-        ≡ number_with (map (bit_in tile.now) group.now.bits.items) (group_view group.now).first (group_view group.now).rows }
+        ≡ number_with (map (bit_in tile.now) group.now.bits.items) (group_view group.now).first
+        (group_view group.now).rows }
     ensures within { IfSome result (λ place. place < length group.now.rows.items) }
 {
     for place in 0..group.rows.len() {
@@ -92,7 +93,8 @@ fn switch_on(bits: &Bits, group: &Group) -> Option<Switch>
 /// Want of memory alone.
 #[tactic(auto, using(ice_chip::proofs::GroupRows::few_before))]
 pub(crate) fn switches_on(alloc: Global, chip: &Chip, bits: &Bits) -> Result<Vec<Switch>, NoMemory>
-    ensures { IfOk result (λ switches. switches.items ≡ switches_on (bits_of bits.now) chip.now.groups) }
+    ensures { IfOk result (λ switches.
+        switches.items ≡ switches_on (bits_of bits.now) chip.now.groups) }
 {
     chip.is_chip();
     let mut switches = Vec::new(alloc);

@@ -9,10 +9,11 @@ use Rattle.ice_bits.specs.Configuration.{Bits}
 use Rattle.ice_decode.specs.declared.driver.Switch.{Switch}
 use Rattle.ice_decode.specs.Direct.{is_padin}
 use Rattle.ice_decode.specs.Drivers.{switches_on}
-use Rattle.ice_decode.specs.Faults.{or_else, is_foreign_wire, is_set_in, foreign_in, first_foreign, has_wrong_type}
+use Rattle.ice_decode.specs.Faults.{is_foreign_wire, is_set_in, has_wrong_type}
+use Rattle.ice_decode.specs.FirstFaults.{or_else, foreign_in, first_foreign}
 use Rattle.ice_decode.specs.Pads.{pads}
 use Rattle.ice_decode.proofs.Driven.{uncontended}
-use Rattle.ice_decode_laws.specs.NoFault.{FaultlessHaveNone}
+use Rattle.ice_decode_laws.specs.Faultless.{FaultlessHaveNone}
 
 -- ---- what is not found is not there
 passed_over : {X : Type 0} (test : X → Bool) (xs : List X) (i : ℕ) (x : X) → find test xs ≡ None → At xs i x → test x ≡ false

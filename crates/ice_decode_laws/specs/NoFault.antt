@@ -13,7 +13,6 @@ use Rattle.ice_decode.specs.Direct.{is_padin}
 use Rattle.ice_decode.specs.Drivers.{driver, switches_on}
 use Rattle.ice_decode.specs.Faults.{is_foreign_wire, is_set_in, HasNoLoop, has_wrong_type}
 use Rattle.ice_decode.specs.Pads.{pads}
-use Rattle.ice_decode.specs.Refusals.{IsFaultless}
 
 pub record HaveNoFault (parts : Parts) (bits : Bits) (extras : List (ℕ × ℕ × ℕ)) : Type 0 where
   -- no two rows into one wire are on
@@ -28,7 +27,3 @@ pub record HaveNoFault (parts : Parts) (bits : Bits) (extras : List (ℕ × ℕ 
   pub loopless : HasNoLoop parts bits extras
   -- no pad is of a wrong type
   pub types : (pad : Pad) → Has (pads parts) pad → has_wrong_type parts bits pad ≡ false
-
--- bits of which none of the faults is found have none
-abbrev pub FaultlessHaveNone : Type 0
-FaultlessHaveNone = (parts : Parts) (bits : Bits) (extras : List (ℕ × ℕ × ℕ)) → IsFaultless parts bits extras → HaveNoFault parts bits extras

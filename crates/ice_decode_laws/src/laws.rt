@@ -1,5 +1,5 @@
 //! The law of bits without a fault, as the contract of a function that does nothing.
-ghost use Rattle.ice_decode_laws.specs.NoFault.{FaultlessHaveNone};
+ghost use Rattle.ice_decode_laws.specs.Faultless.{FaultlessHaveNone};
 
 /// Bits of which none of the faults is found in their order have none: no wire has two rows that are on, no row that is on leads from a
 /// memory, no function of a PLL or of a pair of pads is set, each extra bit is some global's, no points depend on one another in a

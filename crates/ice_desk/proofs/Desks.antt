@@ -3,7 +3,8 @@ use Rattle.std.proofs.Common.{◌≡◌, ◌≤◌, ◌+◌, ◌-◌, ◌++◌, 
 use Rattle.std.proofs.Math.Seq.{take-append_seam}
 use Rattle.std.proofs.lemmas.List.{take_all}
 use Rattle.ice_desk.specs.declared.calls.DeskCall.{DeskCall}
-use Rattle.ice_desk.specs.Desk.{Meaning, SameButReading, SameButWriting, SameButPutting, SameTest}
+use Rattle.ice_desk.specs.Desk.{Meaning}
+use Rattle.ice_desk.specs.Changes.{SameButReading, SameButWriting, SameButPutting, SameTest}
 
 pub reading_trans : (a b c : Meaning) → SameButReading a b → SameButReading b c → SameButReading a c
 reading_trans a b c p q = record {

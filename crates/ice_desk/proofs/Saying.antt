@@ -1,7 +1,8 @@
 -- Says, one after another.
 use Rattle.std.proofs.Common.{inl, inr, ◌≡◌, ◌≤◌, ◌<◌, ◌+◌, ◌-◌, ◌++◌, ℕ, zero, suc, Bool, true, false, List, [], ◌∷◌, length, take, drop, refl, sym, ap, subst, ◌∙◌, arith, length-drop, length-append, take-add, append_assoc, append-nil}
 use Rattle.std.proofs.lemmas.List.{take_all, take-append-le}
-use Rattle.ice_desk.specs.Desk.{Meaning, SameButSaying, Rose, after_one, after_more}
+use Rattle.ice_desk.specs.Desk.{Meaning}
+use Rattle.ice_desk.specs.Changes.{SameButSaying, Rose, after_one, after_more}
 use Rattle.ice_desk.specs.Said.{IsSaid, SaidRow, IsSilent}
 
 pub saying_trans : (a b c : Meaning) → SameButSaying a b → SameButSaying b c → SameButSaying a c

@@ -1,4 +1,5 @@
 pub mod Desk
+pub mod Changes
 pub mod Memory
 pub mod Plan
 pub mod Said

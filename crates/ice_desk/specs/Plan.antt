@@ -1,6 +1,7 @@
 -- What is seen of a desk in memory, how it was asked to behave, and how far its calls are.
 use Rattle.std.specs.Prelude.{ℕ, List, true, Contains}
-use Rattle.ice_desk.specs.Desk.{Meaning, after_one}
+use Rattle.ice_desk.specs.Desk.{Meaning}
+use Rattle.ice_desk.specs.Changes.{after_one}
 use Rattle.ice_desk.specs.Memory.{file_in, left_between}
 use Rattle.ice_desk.specs.declared.calls.DeskCall.{DeskCall}
 use Rattle.ice_desk.specs.declared.calls.DeskCall.TheVariants.{Begin, Read, Make, Put, Say}
@@ -22,7 +23,7 @@ next_number calls Make = after_one calls.makes
 next_number calls Put = after_one calls.puts
 next_number calls Say = after_one calls.says
 
-pub record Plan : Type 0 where
+pub record DeskPlan : Type 0 where
   -- the most bytes that a call moves
   pub most : ℕ
   -- the calls that are to fail, by kind and number from 1
@@ -30,11 +31,11 @@ pub record Plan : Type 0 where
   pub calls : Calls
 
 -- the next call of a kind is one of those that are to fail
-abbrev pub IsNamed : Plan → DeskCall → Type 0
+abbrev pub IsNamed : DeskPlan → DeskCall → Type 0
 IsNamed plan call = Contains plan.fails (call, next_number plan.calls call)
 
 -- the plan of a desk of which no call was made yet
-abbrev pub fresh_plan : ℕ → List (DeskCall × ℕ) → Plan
+abbrev pub fresh_plan : ℕ → List (DeskCall × ℕ) → DeskPlan
 fresh_plan most fails = record {
   most = most;
   fails = fails;
@@ -42,7 +43,7 @@ fresh_plan most fails = record {
 }
 
 -- a plan after one call more of a kind
-abbrev pub after_call : Plan → DeskCall → Plan
+abbrev pub after_call : DeskPlan → DeskCall → DeskPlan
 after_call plan Begin = record plan { calls = record (plan.calls) { begins = after_one plan.calls.begins } }
 after_call plan Read = record plan { calls = record (plan.calls) { reads = after_one plan.calls.reads } }
 after_call plan Make = record plan { calls = record (plan.calls) { makes = after_one plan.calls.makes } }
@@ -50,7 +51,7 @@ after_call plan Put = record plan { calls = record (plan.calls) { puts = after_o
 after_call plan Say = record plan { calls = record (plan.calls) { says = after_one plan.calls.says } }
 
 -- the plan of a desk in memory
-abbrev pub plan_of : MemoryDesk → Plan
+abbrev pub plan_of : MemoryDesk → DeskPlan
 plan_of d = record {
   most = d.most;
   fails = d.fails.items;

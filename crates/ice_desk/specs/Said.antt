@@ -1,6 +1,7 @@
 -- What was said of a text.
 use Rattle.std.specs.Prelude.{◌≡◌, ◌⊎◌, ℕ, ◌≤◌, Bool, true, false, Result, Ok, Err, List, ◌++◌, length, take}
-use Rattle.ice_desk.specs.Desk.{Meaning, Rose, after_more}
+use Rattle.ice_desk.specs.Desk.{Meaning}
+use Rattle.ice_desk.specs.Changes.{Rose, after_more}
 
 -- a front of the text was said
 abbrev pub SaysFront : Meaning → Meaning → List ℕ → Type 0

@@ -1,6 +1,7 @@
 //! Desks: what a program sees of files and of its standard output, and what each call may change.
 ghost use Rattle.std.specs.Prelude.{◌≡◌, ℕ, ◌<◌, ◌≤◌, ◌++◌, List, [], length, take, true, false, Some, None, IfOk, OnOk, OnErr, is_ok};
-ghost use Rattle.ice_desk.specs.Desk.{Meaning, SameButReading, SameButWriting, SameButPutting, SameButSaying, SameTest, IsKeptOrEmpty, after_one, after_more, Rose};
+ghost use Rattle.ice_desk.specs.Desk.{Meaning};
+ghost use Rattle.ice_desk.specs.Changes.{SameButReading, SameButWriting, SameButPutting, SameButSaying, SameTest, IsKeptOrEmpty, after_one, after_more, Rose};
 
 use thiserror::Error;
 
@@ -29,10 +30,13 @@ pub trait Desk {
         ensures names_written { SameTest (may_write self.old) (may_write self.new) }
         ensures begun { (seen self.new).begins ≡ after_one (seen self.old).begins }
         ensures given { (seen self.new).given ≡ 0 }
-        ensures ok { OnOk result ((seen self.old).tells ≡ true → (seen self.old).files name.now ≡ Some (seen self.new).left) }
-        ensures ok_faults { OnOk result ((seen self.new).read_faults ≡ (seen self.old).read_faults) }
+        ensures ok { OnOk result ((seen self.old).tells ≡ true
+            → (seen self.old).files name.now ≡ Some (seen self.new).left) }
+        ensures ok_faults { OnOk result
+            ((seen self.new).read_faults ≡ (seen self.old).read_faults) }
         ensures err { OnErr result ((seen self.new).left ≡ []) }
-        ensures cause { OnErr result (Rose (seen self.old).read_faults (seen self.new).read_faults) };
+        ensures cause { OnErr result
+            (Rose (seen self.old).read_faults (seen self.new).read_faults) };
 
     /// The next bytes of the begun file, at the start of the piece, and how many they are. None of them,
     /// for a piece that isn't empty, is the end. A read with nothing begun gives none.
@@ -42,13 +46,19 @@ pub trait Desk {
         ensures names_written { SameTest (may_write self.old) (may_write self.new) }
         ensures begun { (seen self.new).begins ≡ (seen self.old).begins }
         ensures within { IfOk result (λ n. n ≤ length piece.new) }
-        ensures bytes { IfOk result (λ n. (seen self.old).tells ≡ true → (seen self.old).left ≡ take n piece.new ++ (seen self.new).left) }
-        ensures end { IfOk result (λ n. n ≡ 0 → 0 < length piece.new → (seen self.old).tells ≡ true → (seen self.old).left ≡ []) }
+        ensures bytes { IfOk result (λ n. (seen self.old).tells ≡ true
+            → (seen self.old).left ≡ take n piece.new ++ (seen self.new).left) }
+        ensures end { IfOk result (λ n. n ≡ 0 → 0 < length piece.new → (seen self.old).tells ≡ true
+            → (seen self.old).left ≡ []) }
         ensures unbegun { IfOk result (λ n. (seen self.old).begins ≡ 0 → n ≡ 0) }
-        ensures given { IfOk result (λ n. (seen self.new).given ≡ after_more (seen self.old).given n) }
-        ensures ok_faults { OnOk result ((seen self.new).read_faults ≡ (seen self.old).read_faults) }
-        ensures err { OnErr result (((seen self.new).left ≡ (seen self.old).left) × ((seen self.new).given ≡ (seen self.old).given)) }
-        ensures cause { OnErr result (Rose (seen self.old).read_faults (seen self.new).read_faults) };
+        ensures given { IfOk result (λ n.
+            (seen self.new).given ≡ after_more (seen self.old).given n) }
+        ensures ok_faults { OnOk result
+            ((seen self.new).read_faults ≡ (seen self.old).read_faults) }
+        ensures err { OnErr result (((seen self.new).left ≡ (seen self.old).left)
+            × ((seen self.new).given ≡ (seen self.old).given)) }
+        ensures cause { OnErr result
+            (Rose (seen self.old).read_faults (seen self.new).read_faults) };
 
     /// Empties a file, or makes it, and takes it for writing. After a failure no file is taken, and the
     /// named one is as before or empty.
@@ -60,12 +70,18 @@ pub trait Desk {
         ensures made { (seen self.new).makes ≡ after_one (seen self.old).makes }
         ensures puts { (seen self.new).puts ≡ 0 }
         ensures opened { (seen self.new).is_open ≡ is_ok result }
-        ensures ok { OnOk result ((seen self.old).tells ≡ true → (seen self.new).files name.now ≡ Some []) }
-        ensures ok_taken { OnOk result ((seen self.old).tells ≡ true → (seen self.new).taken ≡ Some name.now) }
-        ensures ok_faults { OnOk result ((seen self.new).write_faults ≡ (seen self.old).write_faults) }
-        ensures err { OnErr result ((seen self.old).tells ≡ true → IsKeptOrEmpty ((seen self.old).files name.now) ((seen self.new).files name.now)) }
-        ensures err_taken { OnErr result ((seen self.old).tells ≡ true → (seen self.new).taken ≡ None) }
-        ensures cause { OnErr result (Rose (seen self.old).write_faults (seen self.new).write_faults) };
+        ensures ok { OnOk result
+            ((seen self.old).tells ≡ true → (seen self.new).files name.now ≡ Some []) }
+        ensures ok_taken { OnOk result
+            ((seen self.old).tells ≡ true → (seen self.new).taken ≡ Some name.now) }
+        ensures ok_faults { OnOk result
+            ((seen self.new).write_faults ≡ (seen self.old).write_faults) }
+        ensures err { OnErr result ((seen self.old).tells ≡ true
+            → IsKeptOrEmpty ((seen self.old).files name.now) ((seen self.new).files name.now)) }
+        ensures err_taken { OnErr result
+            ((seen self.old).tells ≡ true → (seen self.new).taken ≡ None) }
+        ensures cause { OnErr result
+            (Rose (seen self.old).write_faults (seen self.new).write_faults) };
 
     /// Puts bytes of the piece's start behind those of the file that is taken, and tells how many: at
     /// least one of a piece that isn't empty.
@@ -75,11 +91,17 @@ pub trait Desk {
         ensures names_read { SameTest (may_read self.old) (may_read self.new) }
         ensures names_written { SameTest (may_write self.old) (may_write self.new) }
         ensures puts { (seen self.new).puts ≡ after_one (seen self.old).puts }
-        ensures within { IfOk result (λ n. (n ≤ length piece.now) × (0 < length piece.now → 0 < n)) }
-        ensures ok { IfOk result (λ n. (name bytes : List ℕ) → (seen self.old).tells ≡ true → (seen self.old).taken ≡ Some name → (seen self.old).files name ≡ Some bytes → (seen self.new).files name ≡ Some (bytes ++ take n piece.now)) }
-        ensures ok_faults { OnOk result ((seen self.new).write_faults ≡ (seen self.old).write_faults) }
-        ensures err { OnErr result ((seen self.old).tells ≡ true → (name : List ℕ) → (seen self.new).files name ≡ (seen self.old).files name) }
-        ensures cause { OnErr result (Rose (seen self.old).write_faults (seen self.new).write_faults) };
+        ensures within { IfOk result (λ n.
+            (n ≤ length piece.now) × (0 < length piece.now → 0 < n)) }
+        ensures ok { IfOk result (λ n. (name bytes : List ℕ) → (seen self.old).tells ≡ true
+            → (seen self.old).taken ≡ Some name → (seen self.old).files name ≡ Some bytes
+            → (seen self.new).files name ≡ Some (bytes ++ take n piece.now)) }
+        ensures ok_faults { OnOk result
+            ((seen self.new).write_faults ≡ (seen self.old).write_faults) }
+        ensures err { OnErr result ((seen self.old).tells ≡ true → (name : List ℕ)
+            → (seen self.new).files name ≡ (seen self.old).files name) }
+        ensures cause { OnErr result
+            (Rose (seen self.old).write_faults (seen self.new).write_faults) };
 
     /// Puts bytes of the piece's start to the standard output, and tells how many: at least one of a
     /// piece that isn't empty.
@@ -88,11 +110,17 @@ pub trait Desk {
         ensures names_read { SameTest (may_read self.old) (may_read self.new) }
         ensures names_written { SameTest (may_write self.old) (may_write self.new) }
         ensures says { (seen self.new).says ≡ after_one (seen self.old).says }
-        ensures within { IfOk result (λ n. (n ≤ length piece.now) × (0 < length piece.now → 0 < n)) }
-        ensures ok { IfOk result (λ n. (seen self.old).tells ≡ true → (seen self.new).said ≡ (seen self.old).said ++ take n piece.now) }
-        ensures ok_faults { OnOk result ((seen self.new).write_faults ≡ (seen self.old).write_faults) }
-        ensures ok_say_faults { OnOk result ((seen self.new).say_faults ≡ (seen self.old).say_faults) }
+        ensures within { IfOk result (λ n.
+            (n ≤ length piece.now) × (0 < length piece.now → 0 < n)) }
+        ensures ok { IfOk result (λ n. (seen self.old).tells ≡ true
+            → (seen self.new).said ≡ (seen self.old).said ++ take n piece.now) }
+        ensures ok_faults { OnOk result
+            ((seen self.new).write_faults ≡ (seen self.old).write_faults) }
+        ensures ok_say_faults { OnOk result
+            ((seen self.new).say_faults ≡ (seen self.old).say_faults) }
         ensures err { OnErr result ((seen self.new).said ≡ (seen self.old).said) }
-        ensures cause { OnErr result (Rose (seen self.old).write_faults (seen self.new).write_faults) }
-        ensures say_cause { OnErr result (Rose (seen self.old).say_faults (seen self.new).say_faults) };
+        ensures cause { OnErr result
+            (Rose (seen self.old).write_faults (seen self.new).write_faults) }
+        ensures say_cause { OnErr result
+            (Rose (seen self.old).say_faults (seen self.new).say_faults) };
 }

@@ -63,8 +63,10 @@ fn take_bytes(alloc: Global, files: &mut Vec<(Name, Vec<u8>)>, place: usize, nam
     ensures bytes { result.items ≡ bytes_at files.old.items place }
     ensures count { length files.new.items ≡ length files.old.items }
     ensures emptied { file_in files.new.items name.now ≡ Some [] }
-    ensures others { (n : List ℕ) → n ≢ name.now → file_in files.new.items n ≡ file_in files.old.items n }
-    ensures elsewhere { (k : ℕ) → k ≢ place → bytes_at files.new.items k ≡ bytes_at files.old.items k }
+    ensures others { (n : List ℕ) → n ≢ name.now
+        → file_in files.new.items n ≡ file_in files.old.items n }
+    ensures elsewhere { (k : ℕ) → k ≢ place
+        → bytes_at files.new.items k ≡ bytes_at files.old.items k }
 {
     let file = &mut files[place];
     mem::replace(&mut file.1, Vec::new(alloc))
@@ -73,7 +75,9 @@ fn take_bytes(alloc: Global, files: &mut Vec<(Name, Vec<u8>)>, place: usize, nam
 /// Goes on with these bytes, where the source is the file at this place, whose bytes they were.
 fn keep_reading(source: &mut Source, place: usize, bytes: Vec<u8>)
     ensures needed { needed_files source.new ≤ needed_files source.old }
-    ensures kept { (before now : List Named) → bytes.items ≡ bytes_at before place → ((k : ℕ) → k ≢ place → bytes_at now k ≡ bytes_at before k) → source_bytes now source.new ≡ source_bytes before source.old }
+    ensures kept { (before now : List Named) → bytes.items ≡ bytes_at before place
+        → ((k : ℕ) → k ≢ place → bytes_at now k ≡ bytes_at before k)
+        → source_bytes now source.new ≡ source_bytes before source.old }
 {
     if let Source::File(read) = source {
         if *read == place {
@@ -92,9 +96,11 @@ pub fn empty_file(
 ) -> Result<(), NoMemory>
     requires { needed_files source.old ≤ length files.old.items }
     ensures needed { needed_files source.new ≤ length files.new.items }
-    ensures kept { source_bytes files.new.items source.new ≡ source_bytes files.old.items source.old }
+    ensures kept { source_bytes files.new.items source.new
+        ≡ source_bytes files.old.items source.old }
     ensures ok { OnOk result (file_in files.new.items name.now ≡ Some []) }
-    ensures others { (n : List ℕ) → n ≢ name.now → file_in files.new.items n ≡ file_in files.old.items n }
+    ensures others { (n : List ℕ) → n ≢ name.now
+        → file_in files.new.items n ≡ file_in files.old.items n }
     ensures existing { OnErr result (file_in files.old.items name.now ≡ None) }
     ensures err { OnErr result (files.new.items ≡ files.old.items) }
 {
@@ -113,9 +119,11 @@ pub fn empty_file(
 fn push_empty(alloc: Global, files: &mut Vec<(Name, Vec<u8>)>, name: &[u8]) -> Result<(), NoMemory>
     requires { file_in files.old.items name.now ≡ None }
     ensures count { length files.old.items ≤ length files.new.items }
-    ensures kept { (k : ℕ) → k < length files.old.items → bytes_at files.new.items k ≡ bytes_at files.old.items k }
+    ensures kept { (k : ℕ) → k < length files.old.items
+        → bytes_at files.new.items k ≡ bytes_at files.old.items k }
     ensures ok { OnOk result (file_in files.new.items name.now ≡ Some []) }
-    ensures others { (n : List ℕ) → n ≢ name.now → file_in files.new.items n ≡ file_in files.old.items n }
+    ensures others { (n : List ℕ) → n ≢ name.now
+        → file_in files.new.items n ≡ file_in files.old.items n }
     ensures err { OnErr result (files.new.items ≡ files.old.items) }
 {
     let name = name_of(alloc, name)?;
@@ -137,9 +145,12 @@ pub fn append_to(
     requires named { IsPlace name.now files.old.items place }
     ensures count { length files.new.items ≡ length files.old.items }
     ensures grown { Grew files.old.items files.new.items }
-    ensures ok { OnOk result ((bytes : List ℕ) → file_in files.old.items name.now ≡ Some bytes → file_in files.new.items name.now ≡ Some (bytes ++ piece.now)) }
-    ensures others { (n : List ℕ) → n ≢ name.now → file_in files.new.items n ≡ file_in files.old.items n }
-    ensures err { OnErr result ((n : List ℕ) → file_in files.new.items n ≡ file_in files.old.items n) }
+    ensures ok { OnOk result ((bytes : List ℕ) → file_in files.old.items name.now ≡ Some bytes
+        → file_in files.new.items name.now ≡ Some (bytes ++ piece.now)) }
+    ensures others { (n : List ℕ) → n ≢ name.now
+        → file_in files.new.items n ≡ file_in files.old.items n }
+    ensures err { OnErr result
+        ((n : List ℕ) → file_in files.new.items n ≡ file_in files.old.items n) }
 {
     let file = &mut files[place];
     match file.1.extend_from_slice(piece) {

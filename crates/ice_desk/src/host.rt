@@ -1,7 +1,7 @@
 //! The desk over real files and standard output: the trusted edge, of which no contents are known.
 ghost use Rattle.std.specs.Prelude.{◌≡◌, ◌<◌, ◌≤◌, length, false, None, IfOk, is_some};
 ghost use Rattle.std.specs.Io.{WritesAtMost};
-ghost use Rattle.ice_desk.specs.Desk.{fresh};
+ghost use Rattle.ice_desk.specs.Changes.{fresh};
 
 use crate::{Desk, Failed};
 use std::fs::Files;

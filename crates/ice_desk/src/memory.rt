@@ -1,7 +1,8 @@
 //! A desk in memory: files and standard output as lists of bytes, with calls that fail when asked to.
 ghost use Rattle.std.specs.Prelude.{◌≡◌, ℕ, ◌+◌, ◌-◌, ◌^◌, ◌<◌, ◌≤◌, ◌++◌, ◌↔◌, ◌⊎◌, List, [], min, length, take, drop, true, false, Some, None, Option, IfOk, OnOk, OnErr, IsErr, is_ok};
 ghost use Rattle.std.specs.Option.{option_map};
-ghost use Rattle.ice_desk.specs.Desk.{Meaning, fresh, SameButReading, SameButWriting, SameButPutting, SameButSaying, SameTest, IsKeptOrEmpty, after_one, after_more, Rose};
+ghost use Rattle.ice_desk.specs.Desk.{Meaning};
+ghost use Rattle.ice_desk.specs.Changes.{fresh, SameButReading, SameButWriting, SameButPutting, SameButSaying, SameTest, IsKeptOrEmpty, after_one, after_more, Rose};
 ghost use Rattle.ice_desk.specs.Memory.{file_in, left_between, source_bytes, needed_files};
 
 use crate::calls::{DeskCall, is_named};
@@ -102,7 +103,8 @@ impl MemoryDesk {
 impl Desk for MemoryDesk {
     ghost use Rattle.std.specs.Prelude.{◌≡◌, ℕ, ◌+◌, ◌-◌, ◌^◌, ◌<◌, ◌≤◌, ◌++◌, ◌↔◌, ◌⊎◌, List, [], min, length, take, drop, true, false, Some, None, Option, IfOk, OnOk, OnErr, IsErr, is_ok};
     ghost use Rattle.std.specs.Option.{option_map};
-    ghost use Rattle.ice_desk.specs.Desk.{Meaning, SameButReading, SameButWriting, SameButPutting, SameButSaying, SameTest, IsKeptOrEmpty, after_one, after_more, Rose};
+    ghost use Rattle.ice_desk.specs.Desk.{Meaning};
+    ghost use Rattle.ice_desk.specs.Changes.{SameButReading, SameButWriting, SameButPutting, SameButSaying, SameTest, IsKeptOrEmpty, after_one, after_more, Rose};
     ghost use Rattle.ice_desk.specs.Plan.{seen_of, plan_of, after_call, IsNamed};
 
     ghost seen = { seen_of };
@@ -117,11 +119,16 @@ impl Desk for MemoryDesk {
         ensures same { SameButReading (seen_of self.old) (seen_of self.new) }
         ensures begun { (seen_of self.new).begins ≡ after_one (seen_of self.old).begins }
         ensures given { (seen_of self.new).given ≡ 0 }
-        ensures ok { OnOk result ((seen_of self.old).tells ≡ true → (seen_of self.old).files name.now ≡ Some (seen_of self.new).left) }
-        ensures ok_faults { OnOk result ((seen_of self.new).read_faults ≡ (seen_of self.old).read_faults) }
+        ensures ok { OnOk result ((seen_of self.old).tells ≡ true
+            → (seen_of self.old).files name.now ≡ Some (seen_of self.new).left) }
+        ensures ok_faults { OnOk result
+            ((seen_of self.new).read_faults ≡ (seen_of self.old).read_faults) }
         ensures err { OnErr result ((seen_of self.new).left ≡ []) }
-        ensures cause { OnErr result (Rose (seen_of self.old).read_faults (seen_of self.new).read_faults) }
-        ensures fails { IsErr result ↔ (IsNamed (plan_of self.old) DeskCall.Begin ⊎ ((seen_of self.old).files name.now ≡ None)) }
+        ensures cause { OnErr result
+            (Rose (seen_of self.old).read_faults (seen_of self.new).read_faults) }
+        ensures fails { IsErr result
+            ↔ (IsNamed (plan_of self.old) DeskCall.Begin
+            ⊎ ((seen_of self.old).files name.now ≡ None)) }
         ensures plan { plan_of self.new ≡ after_call (plan_of self.old) DeskCall.Begin }
     {
         self.begins = self.begins.saturating_add(1);
@@ -147,15 +154,22 @@ impl Desk for MemoryDesk {
         ensures same { SameButReading (seen_of self.old) (seen_of self.new) }
         ensures begun { (seen_of self.new).begins ≡ (seen_of self.old).begins }
         ensures within { IfOk result (λ n. n ≤ length piece.new) }
-        ensures bytes { IfOk result (λ n. (seen_of self.old).tells ≡ true → (seen_of self.old).left ≡ take n piece.new ++ (seen_of self.new).left) }
-        ensures end { IfOk result (λ n. n ≡ 0 → 0 < length piece.new → (seen_of self.old).tells ≡ true → (seen_of self.old).left ≡ []) }
+        ensures bytes { IfOk result (λ n. (seen_of self.old).tells ≡ true
+            → (seen_of self.old).left ≡ take n piece.new ++ (seen_of self.new).left) }
+        ensures end { IfOk result (λ n. n ≡ 0 → 0 < length piece.new
+            → (seen_of self.old).tells ≡ true → (seen_of self.old).left ≡ []) }
         ensures unbegun { IfOk result (λ n. (seen_of self.old).begins ≡ 0 → n ≡ 0) }
-        ensures given { IfOk result (λ n. (seen_of self.new).given ≡ after_more (seen_of self.old).given n) }
-        ensures ok_faults { OnOk result ((seen_of self.new).read_faults ≡ (seen_of self.old).read_faults) }
-        ensures err { OnErr result (((seen_of self.new).left ≡ (seen_of self.old).left) × ((seen_of self.new).given ≡ (seen_of self.old).given)) }
-        ensures cause { OnErr result (Rose (seen_of self.old).read_faults (seen_of self.new).read_faults) }
+        ensures given { IfOk result (λ n.
+            (seen_of self.new).given ≡ after_more (seen_of self.old).given n) }
+        ensures ok_faults { OnOk result
+            ((seen_of self.new).read_faults ≡ (seen_of self.old).read_faults) }
+        ensures err { OnErr result (((seen_of self.new).left ≡ (seen_of self.old).left)
+            × ((seen_of self.new).given ≡ (seen_of self.old).given)) }
+        ensures cause { OnErr result
+            (Rose (seen_of self.old).read_faults (seen_of self.new).read_faults) }
         ensures fails { IsErr result ↔ IsNamed (plan_of self.old) DeskCall.Read }
-        ensures count { IfOk result (λ n. n ≡ min (min (length piece.new) (plan_of self.old).most) (length (seen_of self.old).left)) }
+        ensures count { IfOk result (λ n. n ≡ min (min (length piece.new) (plan_of self.old).most)
+            (length (seen_of self.old).left)) }
         ensures plan { plan_of self.new ≡ after_call (plan_of self.old) DeskCall.Read }
     {
         self.reads = self.reads.saturating_add(1);
@@ -178,12 +192,18 @@ impl Desk for MemoryDesk {
         ensures made { (seen_of self.new).makes ≡ after_one (seen_of self.old).makes }
         ensures puts { (seen_of self.new).puts ≡ 0 }
         ensures opened { (seen_of self.new).is_open ≡ is_ok result }
-        ensures ok { OnOk result ((seen_of self.old).tells ≡ true → (seen_of self.new).files name.now ≡ Some []) }
-        ensures ok_taken { OnOk result ((seen_of self.old).tells ≡ true → (seen_of self.new).taken ≡ Some name.now) }
-        ensures ok_faults { OnOk result ((seen_of self.new).write_faults ≡ (seen_of self.old).write_faults) }
-        ensures err { OnErr result ((seen_of self.old).tells ≡ true → IsKeptOrEmpty ((seen_of self.old).files name.now) ((seen_of self.new).files name.now)) }
-        ensures err_taken { OnErr result ((seen_of self.old).tells ≡ true → (seen_of self.new).taken ≡ None) }
-        ensures cause { OnErr result (Rose (seen_of self.old).write_faults (seen_of self.new).write_faults) }
+        ensures ok { OnOk result
+            ((seen_of self.old).tells ≡ true → (seen_of self.new).files name.now ≡ Some []) }
+        ensures ok_taken { OnOk result
+            ((seen_of self.old).tells ≡ true → (seen_of self.new).taken ≡ Some name.now) }
+        ensures ok_faults { OnOk result
+            ((seen_of self.new).write_faults ≡ (seen_of self.old).write_faults) }
+        ensures err { OnErr result ((seen_of self.old).tells ≡ true → IsKeptOrEmpty
+            ((seen_of self.old).files name.now) ((seen_of self.new).files name.now)) }
+        ensures err_taken { OnErr result
+            ((seen_of self.old).tells ≡ true → (seen_of self.new).taken ≡ None) }
+        ensures cause { OnErr result
+            (Rose (seen_of self.old).write_faults (seen_of self.new).write_faults) }
         ensures fails { IsNamed (plan_of self.old) DeskCall.Make → IsErr result }
         ensures plan { plan_of self.new ≡ after_call (plan_of self.old) DeskCall.Make }
     {
@@ -221,11 +241,17 @@ impl Desk for MemoryDesk {
         requires { (seen_of self.old).is_open ≡ true }
         ensures same { SameButPutting (seen_of self.old) (seen_of self.new) }
         ensures puts { (seen_of self.new).puts ≡ after_one (seen_of self.old).puts }
-        ensures within { IfOk result (λ n. (n ≤ length piece.now) × (0 < length piece.now → 0 < n)) }
-        ensures ok { IfOk result (λ n. (name bytes : List ℕ) → (seen_of self.old).tells ≡ true → (seen_of self.old).taken ≡ Some name → (seen_of self.old).files name ≡ Some bytes → (seen_of self.new).files name ≡ Some (bytes ++ take n piece.now)) }
-        ensures ok_faults { OnOk result ((seen_of self.new).write_faults ≡ (seen_of self.old).write_faults) }
-        ensures err { OnErr result ((seen_of self.old).tells ≡ true → (name : List ℕ) → (seen_of self.new).files name ≡ (seen_of self.old).files name) }
-        ensures cause { OnErr result (Rose (seen_of self.old).write_faults (seen_of self.new).write_faults) }
+        ensures within { IfOk result (λ n.
+            (n ≤ length piece.now) × (0 < length piece.now → 0 < n)) }
+        ensures ok { IfOk result (λ n. (name bytes : List ℕ) → (seen_of self.old).tells ≡ true
+            → (seen_of self.old).taken ≡ Some name → (seen_of self.old).files name ≡ Some bytes
+            → (seen_of self.new).files name ≡ Some (bytes ++ take n piece.now)) }
+        ensures ok_faults { OnOk result
+            ((seen_of self.new).write_faults ≡ (seen_of self.old).write_faults) }
+        ensures err { OnErr result ((seen_of self.old).tells ≡ true → (name : List ℕ)
+            → (seen_of self.new).files name ≡ (seen_of self.old).files name) }
+        ensures cause { OnErr result
+            (Rose (seen_of self.old).write_faults (seen_of self.new).write_faults) }
         ensures fails { IsNamed (plan_of self.old) DeskCall.Put → IsErr result }
         ensures count { IfOk result (λ n. n ≡ min (length piece.now) (plan_of self.old).most) }
         ensures plan { plan_of self.new ≡ after_call (plan_of self.old) DeskCall.Put }
@@ -256,13 +282,19 @@ impl Desk for MemoryDesk {
     fn say(&mut self, piece: &[u8]) -> Result<usize, Failed>
         ensures same { SameButSaying (seen_of self.old) (seen_of self.new) }
         ensures says { (seen_of self.new).says ≡ after_one (seen_of self.old).says }
-        ensures within { IfOk result (λ n. (n ≤ length piece.now) × (0 < length piece.now → 0 < n)) }
-        ensures ok { IfOk result (λ n. (seen_of self.old).tells ≡ true → (seen_of self.new).said ≡ (seen_of self.old).said ++ take n piece.now) }
-        ensures ok_faults { OnOk result ((seen_of self.new).write_faults ≡ (seen_of self.old).write_faults) }
-        ensures ok_say_faults { OnOk result ((seen_of self.new).say_faults ≡ (seen_of self.old).say_faults) }
+        ensures within { IfOk result (λ n.
+            (n ≤ length piece.now) × (0 < length piece.now → 0 < n)) }
+        ensures ok { IfOk result (λ n. (seen_of self.old).tells ≡ true
+            → (seen_of self.new).said ≡ (seen_of self.old).said ++ take n piece.now) }
+        ensures ok_faults { OnOk result
+            ((seen_of self.new).write_faults ≡ (seen_of self.old).write_faults) }
+        ensures ok_say_faults { OnOk result
+            ((seen_of self.new).say_faults ≡ (seen_of self.old).say_faults) }
         ensures err { OnErr result ((seen_of self.new).said ≡ (seen_of self.old).said) }
-        ensures cause { OnErr result (Rose (seen_of self.old).write_faults (seen_of self.new).write_faults) }
-        ensures say_cause { OnErr result (Rose (seen_of self.old).say_faults (seen_of self.new).say_faults) }
+        ensures cause { OnErr result
+            (Rose (seen_of self.old).write_faults (seen_of self.new).write_faults) }
+        ensures say_cause { OnErr result
+            (Rose (seen_of self.old).say_faults (seen_of self.new).say_faults) }
         ensures fails { IsNamed (plan_of self.old) DeskCall.Say → IsErr result }
         ensures count { IfOk result (λ n. n ≡ min (length piece.now) (plan_of self.old).most) }
         ensures plan { plan_of self.new ≡ after_call (plan_of self.old) DeskCall.Say }

@@ -1,6 +1,6 @@
 //! Saying a whole text over any desk.
 ghost use Rattle.std.specs.Prelude.{◌≡◌};
-ghost use Rattle.ice_desk.specs.Desk.{SameButSaying, SameTest};
+ghost use Rattle.ice_desk.specs.Changes.{SameButSaying, SameTest};
 ghost use Rattle.ice_desk.specs.Said.{IsTextSaid};
 
 use crate::Desk;

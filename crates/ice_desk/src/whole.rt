@@ -1,7 +1,7 @@
 //! Whole files over any desk: reading one up to a limit, and writing one.
 ghost use Rattle.std.specs.Prelude.{◌≡◌, ℕ, ◌<◌, ◌≤◌, ◌↔◌, List, [], length, true, false, Some, None, IfOk, IsErrOf, OnOk, OnErr, if◌then◌else◌};
 ghost use Rattle.ice_desk.specs.declared.whole.ReadStop.TheVariants.{NoMemory};
-ghost use Rattle.ice_desk.specs.Desk.{SameButReading, SameButWriting, SameTest, HoldsAfter, after_one, Rose};
+ghost use Rattle.ice_desk.specs.Changes.{SameButReading, SameButWriting, SameTest, HoldsAfter, after_one, Rose};
 
 use crate::{Desk, Failed};
 use std::alloc::{AllocError, Global};
@@ -46,14 +46,19 @@ pub fn read_whole<D: Desk>(
     ensures names_read { SameTest (D.may_read desk.old) (D.may_read desk.new) }
     ensures names_written { SameTest (D.may_write desk.old) (D.may_write desk.new) }
     ensures begun { (D.seen desk.new).begins ≡ after_one (D.seen desk.old).begins }
-    ensures bytes { IfOk result (λ text. (D.seen desk.old).tells ≡ true → (D.seen desk.old).files name.now ≡ Some text.items) }
+    ensures bytes { IfOk result (λ text.
+        (D.seen desk.old).tells ≡ true → (D.seen desk.old).files name.now ≡ Some text.items) }
     ensures end { OnOk result ((D.seen desk.old).tells ≡ true → (D.seen desk.new).left ≡ []) }
     ensures given { IfOk result (λ text. (D.seen desk.new).given ≡ length text.items) }
-    ensures cause { IsErrOf result ReadStop.Failed → Rose (D.seen desk.old).read_faults (D.seen desk.new).read_faults }
-    ensures other_faults { (IsErrOf result ReadStop.Failed → ⊥) → (D.seen desk.new).read_faults ≡ (D.seen desk.old).read_faults }
+    ensures cause { IsErrOf result ReadStop.Failed
+        → Rose (D.seen desk.old).read_faults (D.seen desk.new).read_faults }
+    ensures other_faults { (IsErrOf result ReadStop.Failed → ⊥)
+        → (D.seen desk.new).read_faults ≡ (D.seen desk.old).read_faults }
     ensures too_long { limit < (D.seen desk.new).given ↔ IsErrOf result (ReadStop.TooLong limit) }
     ensures that_limit { (n : ℕ) → IsErrOf result (ReadStop.TooLong n) → n ≡ limit }
-    ensures longer { (n : ℕ) → IsErrOf result (ReadStop.TooLong n) → (bytes : List ℕ) → (D.seen desk.old).tells ≡ true → (D.seen desk.old).files name.now ≡ Some bytes → limit < length bytes }
+    ensures longer { (n : ℕ) → IsErrOf result (ReadStop.TooLong n) → (bytes : List ℕ)
+        → (D.seen desk.old).tells ≡ true → (D.seen desk.old).files name.now ≡ Some bytes
+        → limit < length bytes }
 {
     let mut text = Vec::new(alloc);
     if desk.begin(name).is_err() {
@@ -92,14 +97,22 @@ pub fn write_whole<D: Desk>(desk: &mut D, name: &str, text: &[u8]) -> Result<(),
     ensures names_written { SameTest (D.may_write desk.old) (D.may_write desk.new) }
     ensures made { (D.seen desk.new).makes ≡ after_one (D.seen desk.old).makes }
     ensures few { (D.seen desk.new).puts ≤ length text.now }
-    ensures taken { (D.seen desk.old).tells ≡ true → (D.seen desk.new).taken ≡ (if (D.seen desk.new).is_open then Some name.now else None) }
-    ensures ok { OnOk result ((D.seen desk.old).tells ≡ true → (D.seen desk.new).files name.now ≡ Some text.now) }
+    ensures taken { (D.seen desk.old).tells ≡ true
+        → (D.seen desk.new).taken ≡ (if (D.seen desk.new).is_open then Some name.now else None) }
+    ensures ok { OnOk result
+        ((D.seen desk.old).tells ≡ true → (D.seen desk.new).files name.now ≡ Some text.now) }
     ensures ok_open { OnOk result ((D.seen desk.new).is_open ≡ true) }
-    ensures ok_faults { OnOk result ((D.seen desk.new).write_faults ≡ (D.seen desk.old).write_faults) }
-    ensures err { (put : ℕ) → IsErrOf result (WriteStop.Failed put) → (D.seen desk.old).tells ≡ true → HoldsAfter text.now put ((D.seen desk.old).files name.now) ((D.seen desk.new).files name.now) }
-    ensures err_puts { (put : ℕ) → IsErrOf result (WriteStop.Failed put) → (D.seen desk.new).puts ≡ put }
-    ensures err_open { (put : ℕ) → IsErrOf result (WriteStop.Failed put) → ((D.seen desk.new).is_open ≡ true ↔ 0 < put) }
-    ensures cause { OnErr result (Rose (D.seen desk.old).write_faults (D.seen desk.new).write_faults) }
+    ensures ok_faults { OnOk result
+        ((D.seen desk.new).write_faults ≡ (D.seen desk.old).write_faults) }
+    ensures err { (put : ℕ) → IsErrOf result (WriteStop.Failed put) → (D.seen desk.old).tells ≡ true
+        → HoldsAfter text.now put ((D.seen desk.old).files name.now)
+        ((D.seen desk.new).files name.now) }
+    ensures err_puts { (put : ℕ) → IsErrOf result (WriteStop.Failed put)
+        → (D.seen desk.new).puts ≡ put }
+    ensures err_open { (put : ℕ) → IsErrOf result (WriteStop.Failed put)
+        → ((D.seen desk.new).is_open ≡ true ↔ 0 < put) }
+    ensures cause { OnErr result
+        (Rose (D.seen desk.old).write_faults (D.seen desk.new).write_faults) }
 {
     if desk.make(name).is_err() {
         return Err(WriteStop::Failed { put: 0 });

@@ -1,6 +1,6 @@
 //! Reading a file piece by piece.
 ghost use Rattle.std.specs.Prelude.{◌≡◌, ℕ, ◌<◌, List, [], length, true, Some, IsErrOf, OnOk, OnErr};
-ghost use Rattle.ice_desk.specs.Desk.{SameButReading, SameTest, after_one, Rose};
+ghost use Rattle.ice_desk.specs.Changes.{SameButReading, SameTest, after_one, Rose};
 ghost use Rattle.ice_desk.specs.declared.whole.ReadStop.TheVariants.{Failed, TooLong, NoMemory};
 ghost use Rattle.ice_desk_pieces.specs.Taken.{TakesMore, IsWhole, IsFront};
 
@@ -29,17 +29,25 @@ pub fn read_pieces<D: Desk, T: Taker>(
     ensures names_read { SameTest (D.may_read desk.old) (D.may_read desk.new) }
     ensures names_written { SameTest (D.may_write desk.old) (D.may_write desk.new) }
     ensures begun { (D.seen desk.new).begins ≡ after_one (D.seen desk.old).begins }
-    ensures taken { OnOk result ((bytes : List ℕ) × IsWhole (D.seen desk.old) (D.seen desk.new) name.now bytes × TakesMore (T.stands taker.old) (T.stands taker.new) bytes) }
+    ensures taken { OnOk result
+        ((bytes : List ℕ) × IsWhole (D.seen desk.old) (D.seen desk.new) name.now bytes
+        × TakesMore (T.stands taker.old) (T.stands taker.new) bytes) }
     ensures end { OnOk result ((D.seen desk.old).tells ≡ true → (D.seen desk.new).left ≡ []) }
-    ensures cause { IsErrOf result Failed → Rose (D.seen desk.old).read_faults (D.seen desk.new).read_faults }
-    ensures other_faults { (IsErrOf result Failed → ⊥) → (D.seen desk.new).read_faults ≡ (D.seen desk.old).read_faults }
+    ensures cause { IsErrOf result Failed
+        → Rose (D.seen desk.old).read_faults (D.seen desk.new).read_faults }
+    ensures other_faults { (IsErrOf result Failed → ⊥)
+        → (D.seen desk.new).read_faults ≡ (D.seen desk.old).read_faults }
     ensures too_long { limit < (D.seen desk.new).given → IsErrOf result (TooLong limit) }
     ensures counted { IsErrOf result (TooLong limit) → Rose limit (D.seen desk.new).given }
     ensures that_limit { (n : ℕ) → IsErrOf result (TooLong n) → n ≡ limit }
-    ensures longer { (n : ℕ) → IsErrOf result (TooLong n) → (bytes : List ℕ) → (D.seen desk.old).tells ≡ true → (D.seen desk.old).files name.now ≡ Some bytes → limit < length bytes }
+    ensures longer { (n : ℕ) → IsErrOf result (TooLong n) → (bytes : List ℕ)
+        → (D.seen desk.old).tells ≡ true → (D.seen desk.old).files name.now ≡ Some bytes
+        → limit < length bytes }
     ensures no_memory { IsErrOf result NoMemory → T.spent taker.new }
     ensures still { T.spent taker.old → T.spent taker.new }
-    ensures front { OnErr result ((IsErrOf result NoMemory → ⊥) → (bytes : List ℕ) × IsFront (D.seen desk.old) (D.seen desk.new) name.now bytes × TakesMore (T.stands taker.old) (T.stands taker.new) bytes) }
+    ensures front { OnErr result ((IsErrOf result NoMemory → ⊥)
+        → (bytes : List ℕ) × IsFront (D.seen desk.old) (D.seen desk.new) name.now bytes
+        × TakesMore (T.stands taker.old) (T.stands taker.new) bytes) }
 {
     if desk.begin(name).is_err() {
         return Err(ReadStop::Failed);

@@ -8,7 +8,7 @@ use Rattle.ice_base.specs.declared.number.TileAt.{TileAt}
 use Rattle.ice_base.specs.declared.number.WireNo.{WireNo}
 use Rattle.ice_chip.specs.Database.{Parts}
 use Rattle.ice_chip.specs.Lookups.{wire_named}
-use Rattle.ice_chip.specs.Names.{carry_in_name, first_carry_name}
+use Rattle.ice_chip.specs.WireNames.{carry_in_name, first_carry_name}
 use Rattle.ice_decode.specs.declared.driver.Switch.{Switch}
 use Rattle.ice_bits_rows.specs.FirstSound.{first_sound}
 use Rattle.ice_emit_defs.specs.Links.{tree_switch, switch_numbered, listed, link_into, link, chunk_links}

@@ -1,7 +1,7 @@
 -- What the written bits mean, from the laws of which each says a part.
 use Rattle.std.proofs.Common.{◌≡◌, ℕ, Bool, List, sym, subst}
 use Rattle.std.proofs.Math.Path.{fun_ext}
-use Rattle.ice_base.specs.declared.number.BitAt.{BitAt}
+use Rattle.ice_base.specs.declared.bit.BitAt.{BitAt}
 use Rattle.ice_base.specs.declared.number.TileAt.{TileAt}
 use Rattle.ice_chip.specs.Database.{Parts, PackageRows}
 use Rattle.ice_bits.specs.Configuration.{Bits, Configuration, bits_of}

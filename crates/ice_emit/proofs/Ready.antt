@@ -3,13 +3,14 @@ use Rattle.std.proofs.Common.{◌≡◌, ℕ, zero, suc, Bool, true, false, cond
 use Rattle.std.specs.Prelude.{◌||◌, slice_get, option_map}
 use Rattle.std.specs.List.{list_any, cons_option}
 use Rattle.std.specs.Map.{lookup}
-use Rattle.ice_base.specs.declared.number.BitAt.{BitAt}
+use Rattle.ice_base.specs.declared.bit.BitAt.{BitAt}
 use Rattle.ice_base.specs.declared.number.RowNo.{RowNo}
 use Rattle.ice_base.specs.declared.number.TileAt.{TileAt}
 use Rattle.ice_chip.specs.Database.{Parts, SwitchGroup, SwitchRow, same_tile, columns}
-use Rattle.ice_chip.specs.Lookups.{rows_of}
+use Rattle.ice_chip.specs.Listings.{rows_of}
 use Rattle.ice_chip.specs.declared.rows.TileLine.{TileLine}
-use Rattle.ice_bits.specs.Configuration.{Configuration, IsOf, bits_of, bit_at, blank, blank_rows, blank_tile}
+use Rattle.ice_bits.specs.Configuration.{Configuration, bits_of, bit_at}
+use Rattle.ice_bits.specs.Grids.{IsOf, blank, blank_rows, blank_tile}
 use Rattle.ice_cells.specs.Tables.{table}
 use Rattle.ice_cluster.specs.Slots.{CellsStandInOneSlot}
 use Rattle.ice_graph.specs.Leading.{route_of}

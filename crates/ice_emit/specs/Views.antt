@@ -1,9 +1,10 @@
 -- The rows of trees, and the bits of lists of rows and settings.
 use Rattle.std.specs.Prelude.{◌≡◌, ℕ, ◌||◌, ◌++◌, List}
-use Rattle.ice_base.specs.declared.number.BitAt.{BitAt}
+use Rattle.ice_base.specs.declared.bit.BitAt.{BitAt}
 use Rattle.ice_base.specs.declared.number.RowNo.{RowNo}
 use Rattle.ice_base.specs.declared.number.TileAt.{TileAt}
-use Rattle.ice_bits.specs.Configuration.{Configuration, bits_of, IsOf}
+use Rattle.ice_bits.specs.Configuration.{Configuration, bits_of}
+use Rattle.ice_bits.specs.Grids.{IsOf}
 use Rattle.ice_chip.specs.Database.{Parts}
 use Rattle.ice_graph.specs.declared.tree.Tree.{Tree}
 use Rattle.ice_emit_settings.specs.Views.{views}

@@ -30,7 +30,8 @@ fn wire_at(wires: &[Option<WireNo>], k: u32) -> Option<WireNo>
 #[tactic(auto, using(crate::proofs::Rooted::pad_root_is, crate::proofs::Rooted::cell_root_is, crate::proofs::Rooted::global_root_is))]
 fn root_wire(routed: &Routed<'_>, root: Root) -> Option<WireNo>
     requires { IsRouted routed.now }
-    ensures { result ≡ option_map wire_no (root_wire routed.now.placed.chip.now (plan_in routed.now.placed) root) }
+    ensures { result ≡ option_map wire_no
+        (root_wire routed.now.placed.chip.now (plan_in routed.now.placed) root) }
 {
     match root {
         Root::PadIn(k) => wire_at(routed.wires.pads.as_slice(), k),
@@ -110,7 +111,8 @@ fn is_in(routed: &Routed<'_>, tree: Option<u32>, wire: Option<WireNo>) -> bool
 // Whether the tree of a root, which begins at its wire, holds the wire of an input.
 fn is_held(routed: &Routed<'_>, tree: Option<u32>, tile: TileAt, i: usize, input: u8) -> bool
     requires { IsRouted routed.now }
-    ensures { result ≡ is_in (routes_in routed.now) tree (pin_wire routed.now.placed.chip.now tile (Input i input)) }
+    ensures { result ≡ is_in (routes_in routed.now) tree
+        (pin_wire routed.now.placed.chip.now tile (Input i input)) }
 {
     is_in(
         routed,
@@ -181,7 +183,8 @@ fn inputs_from(
 /// The table of a cell in a slot as it is written: that of a free cell reads its signals where they arrive. It takes no memory.
 pub fn written_table(routed: &Routed<'_>, tile: TileAt, i: usize, cell: &LogicCell) -> u16
     requires { IsRouted routed.now }
-    ensures { result ≡ written_table routed.now.placed.chip.now (held_in routed.now) tile i cell.now }
+    ensures { result
+        ≡ written_table routed.now.placed.chip.now (held_in routed.now) tile i cell.now }
 {
     if !is_free(cell) {
         return cell.table;

@@ -38,7 +38,8 @@ fn push_placed(
     cell: &LogicCell,
 ) -> Result<(), NoMemory>
     requires { IsRouted routed.now }
-    ensures { OnOk result (views made.new.items ≡ views made.old.items ++ cell_settings routed.now.placed.chip.now (held_in routed.now) tile i cell.now) }
+    ensures { OnOk result (views made.new.items ≡ views made.old.items
+        ++ cell_settings routed.now.placed.chip.now (held_in routed.now) tile i cell.now) }
 {
     let table = written_table(routed, tile, i, cell);
     push_cell(made, tile, named_by(i), table, cell)?;
@@ -54,7 +55,9 @@ fn push_numbered(
     c: u32,
 ) -> Result<(), NoMemory>
     requires { IsRouted routed.now }
-    ensures { OnOk result (views made.new.items ≡ views made.old.items ++ slot_gives (cell_settings routed.now.placed.chip.now (held_in routed.now)) routed.now.placed.design.now.cells tile i (Some c)) }
+    ensures { OnOk result (views made.new.items ≡ views made.old.items
+        ++ slot_gives (cell_settings routed.now.placed.chip.now (held_in routed.now))
+        routed.now.placed.design.now.cells tile i (Some c)) }
 {
     match cell_at(routed.placed.design.cells(), c) {
         None => Ok(()),
@@ -71,7 +74,9 @@ fn push_slot(
     slot: Option<u32>,
 ) -> Result<(), NoMemory>
     requires { IsRouted routed.now }
-    ensures { OnOk result (views made.new.items ≡ views made.old.items ++ slot_gives (cell_settings routed.now.placed.chip.now (held_in routed.now)) routed.now.placed.design.now.cells tile i slot) }
+    ensures { OnOk result (views made.new.items ≡ views made.old.items
+        ++ slot_gives (cell_settings routed.now.placed.chip.now (held_in routed.now))
+        routed.now.placed.design.now.cells tile i slot) }
 {
     match slot {
         None => Ok(()),
@@ -87,7 +92,9 @@ fn push_slots(
     slots: &[Option<u32>],
 ) -> Result<(), NoMemory>
     requires { IsRouted routed.now }
-    ensures { OnOk result (views made.new.items ≡ views made.old.items ++ slots_give (cell_settings routed.now.placed.chip.now (held_in routed.now)) routed.now.placed.design.now.cells tile 0 slots.now) }
+    ensures { OnOk result (views made.new.items ≡ views made.old.items
+        ++ slots_give (cell_settings routed.now.placed.chip.now (held_in routed.now))
+        routed.now.placed.design.now.cells tile 0 slots.now) }
 {
     for (i, slot) in slots.iter().enumerate() {
         push_slot(made, routed, tile, i, *slot)?;
@@ -101,7 +108,8 @@ fn push_edge(
     tile: TileAt,
     control: Option<Control>,
 ) -> Result<(), NoMemory>
-    ensures { OnOk result (views made.new.items ≡ views made.old.items ++ edge_settings tile control) }
+    ensures { OnOk result
+        (views made.new.items ≡ views made.old.items ++ edge_settings tile control) }
 {
     match control {
         None => Ok(()),
@@ -126,7 +134,8 @@ fn push_entry(
     tile: TileAt,
     chunk: Option<(u32, u32)>,
 ) -> Result<(), NoMemory>
-    ensures { OnOk result (views made.new.items ≡ views made.old.items ++ carry_settings runs.now tile chunk) }
+    ensures { OnOk result
+        (views made.new.items ≡ views made.old.items ++ carry_settings runs.now tile chunk) }
 {
     match chunk {
         Some((r, 0)) => push_if(made, is_set(runs, r), tile, TileFunction::CarrySet, 0),
@@ -142,7 +151,8 @@ fn push_cluster(
     tile: TileAt,
 ) -> Result<(), NoMemory>
     requires { IsRouted routed.now }
-    ensures { OnOk result (views made.new.items ≡ views made.old.items ++ cluster_gives routed.now cluster.now tile) }
+    ensures { OnOk result
+        (views made.new.items ≡ views made.old.items ++ cluster_gives routed.now cluster.now tile) }
 {
     push_slots(made, routed, tile, cluster.cells.as_slice())?;
     push_edge(made, tile, cluster.control)?;
@@ -158,7 +168,8 @@ fn push_cluster_at(
     tile: Option<TileAt>,
 ) -> Result<(), NoMemory>
     requires { IsRouted routed.now }
-    ensures { OnOk result (views made.new.items ≡ views made.old.items ++ option_map_or (cluster_gives routed.now cluster.now) tile []) }
+    ensures { OnOk result (views made.new.items
+        ≡ views made.old.items ++ option_map_or (cluster_gives routed.now cluster.now) tile []) }
 {
     match tile {
         None => Ok(()),
@@ -174,7 +185,9 @@ fn push_each(
     clusters: &[Cluster],
 ) -> Result<(), NoMemory>
     requires { IsRouted routed.now }
-    ensures { OnOk result (views made.new.items ≡ views made.old.items ++ clusters_settings routed.now.placed.chip.now (held_in routed.now) routed.now.placed.design.now tiles.now clusters.now) }
+    ensures { OnOk result
+        (views made.new.items ≡ views made.old.items ++ clusters_settings routed.now.placed.chip.now
+        (held_in routed.now) routed.now.placed.design.now tiles.now clusters.now) }
 {
     for (k, cluster) in clusters.iter().enumerate() {
         push_cluster_at(made, routed, cluster, tile_at(tiles, k))?;
@@ -185,7 +198,9 @@ fn push_each(
 /// Adds the settings of all clusters.
 pub fn push_clusters(made: &mut Vec<Setting>, routed: &Routed<'_>) -> Result<(), NoMemory>
     requires { IsRouted routed.now }
-    ensures { OnOk result (views made.new.items ≡ views made.old.items ++ clusters_settings routed.now.placed.chip.now (held_in routed.now) routed.now.placed.design.now routed.now.placed.tiles.now routed.now.placed.clusters.now) }
+    ensures { OnOk result (views made.new.items
+        ≡ views made.old.items ++ clusters_settings routed.now.placed.chip.now (held_in routed.now)
+        routed.now.placed.design.now routed.now.placed.tiles.now routed.now.placed.clusters.now) }
 {
     push_each(made, routed, routed.placed.tiles, routed.placed.clusters)?;
     Ok(())

@@ -47,7 +47,8 @@ fn add_among(
     direct: &[bool],
     numbers: &[u8],
 ) -> Result<(), NoMemory>
-    ensures { OnOk result (bits.new ≡ with_extras (extras_among chip.now globals.now direct.now numbers.now) bits.old) }
+    ensures { OnOk result (bits.new
+        ≡ with_extras (extras_among chip.now globals.now direct.now numbers.now) bits.old) }
 {
     for number in numbers {
         if takes_direct(globals, direct, *number) {
@@ -64,7 +65,8 @@ pub(crate) fn add_extras(
     globals: &[u8],
     direct: &[bool],
 ) -> Result<(), NoMemory>
-    ensures { OnOk result (bits.new ≡ with_extras (extras_among chip.now globals.now direct.now numbers) bits.old) }
+    ensures { OnOk result
+        (bits.new ≡ with_extras (extras_among chip.now globals.now direct.now numbers) bits.old) }
 {
     add_among(bits, chip, globals, direct, &[0, 1, 2, 3, 4, 5, 6, 7])
 }

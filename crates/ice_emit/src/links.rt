@@ -3,7 +3,8 @@ ghost use Rattle.std.specs.Prelude.{◌≡◌, ◌++◌, [], Some, option_map, s
 ghost use Rattle.std.specs.Option.{option_map_or, option_and_then};
 ghost use Rattle.ice_base.specs.declared.number.WireNo.{WireNo};
 ghost use Rattle.ice_chip.specs.Lookups.{wire_named};
-ghost use Rattle.ice_chip.specs.Names.{input_name, carry_out_name};
+ghost use Rattle.ice_chip.specs.Names.{input_name};
+ghost use Rattle.ice_chip.specs.WireNames.{carry_out_name};
 ghost use Rattle.ice_place_defs.specs.Loads.{slot_gives, slots_give};
 ghost use Rattle.ice_emit_defs.specs.Links.{tree_switch, link_into, carry_source, cell_links, chunk_links, cluster_links, all_links};
 ghost use Rattle.ice_emit.specs.Links.{number, cluster_link};
@@ -19,7 +20,8 @@ use ice_chip::{Chip, carry_in_name, carry_out_name, first_carry_name, input_name
 // The first sound row from the one wire to the other, if there are both.
 #[tactic(auto, using(crate::proofs::Listed::link_is, crate::proofs::Listed::no_source, crate::proofs::Listed::no_target))]
 fn link(index: &Index<'_>, source: Option<WireNo>, target: Option<WireNo>) -> Option<RowNo>
-    ensures { option_and_then (tree_switch index.now.chip.now) result ≡ option_and_then (link_into index.now.chip.now (option_map number source)) (option_map number target) }
+    ensures { option_and_then (tree_switch index.now.chip.now) result ≡ option_and_then
+        (link_into index.now.chip.now (option_map number source)) (option_map number target) }
 {
     let source = source?;
     let target = target?;
@@ -59,7 +61,9 @@ fn push_cell_link(
     i: usize,
     cell: &LogicCell,
 ) -> Result<(), NoMemory>
-    ensures { OnOk result (switches index.now.chip.now rows.new.items ≡ switches index.now.chip.now rows.old.items ++ cell_links index.now.chip.now tile i cell.now) }
+    ensures { OnOk result
+        (switches index.now.chip.now rows.new.items ≡ switches index.now.chip.now rows.old.items
+        ++ cell_links index.now.chip.now tile i cell.now) }
 {
     if !cell.carry_to_in3 {
         return Ok(());
@@ -89,7 +93,9 @@ fn push_numbered(
     i: usize,
     c: u32,
 ) -> Result<(), NoMemory>
-    ensures { OnOk result (switches index.now.chip.now rows.new.items ≡ switches index.now.chip.now rows.old.items ++ slot_gives (cell_links index.now.chip.now) cells.now tile i (Some c)) }
+    ensures { OnOk result
+        (switches index.now.chip.now rows.new.items ≡ switches index.now.chip.now rows.old.items
+        ++ slot_gives (cell_links index.now.chip.now) cells.now tile i (Some c)) }
 {
     match cell_at(cells, c) {
         None => Ok(()),
@@ -106,7 +112,9 @@ fn push_slot(
     i: usize,
     slot: Option<u32>,
 ) -> Result<(), NoMemory>
-    ensures { OnOk result (switches index.now.chip.now rows.new.items ≡ switches index.now.chip.now rows.old.items ++ slot_gives (cell_links index.now.chip.now) cells.now tile i slot) }
+    ensures { OnOk result
+        (switches index.now.chip.now rows.new.items ≡ switches index.now.chip.now rows.old.items
+        ++ slot_gives (cell_links index.now.chip.now) cells.now tile i slot) }
 {
     match slot {
         None => Ok(()),
@@ -122,7 +130,9 @@ fn push_slots(
     tile: TileAt,
     slots: &[Option<u32>],
 ) -> Result<(), NoMemory>
-    ensures { OnOk result (switches index.now.chip.now rows.new.items ≡ switches index.now.chip.now rows.old.items ++ slots_give (cell_links index.now.chip.now) cells.now tile 0 slots.now) }
+    ensures { OnOk result
+        (switches index.now.chip.now rows.new.items ≡ switches index.now.chip.now rows.old.items
+        ++ slots_give (cell_links index.now.chip.now) cells.now tile 0 slots.now) }
 {
     for (i, slot) in slots.iter().enumerate() {
         push_slot(rows, index, cells, tile, i, *slot)?;
@@ -137,7 +147,8 @@ fn push_entry(
     tile: TileAt,
     chunk: Option<(u32, u32)>,
 ) -> Result<(), NoMemory>
-    ensures { OnOk result (switches index.now.chip.now rows.new.items ≡ switches index.now.chip.now rows.old.items ++ chunk_links index.now.chip.now tile chunk) }
+    ensures { OnOk result (switches index.now.chip.now rows.new.items
+        ≡ switches index.now.chip.now rows.old.items ++ chunk_links index.now.chip.now tile chunk) }
 {
     let Some((_, k)) = chunk else {
         return Ok(());
@@ -162,7 +173,9 @@ fn push_cluster(
     cluster: &Cluster,
     tile: TileAt,
 ) -> Result<(), NoMemory>
-    ensures { OnOk result (switches index.now.chip.now rows.new.items ≡ switches index.now.chip.now rows.old.items ++ cluster_link index.now.chip.now cells.now cluster.now tile) }
+    ensures { OnOk result
+        (switches index.now.chip.now rows.new.items ≡ switches index.now.chip.now rows.old.items
+        ++ cluster_link index.now.chip.now cells.now cluster.now tile) }
 {
     push_slots(rows, index, cells, tile, cluster.cells.as_slice())?;
     push_entry(rows, index, tile, cluster.run)?;
@@ -177,7 +190,9 @@ fn push_cluster_at(
     cluster: &Cluster,
     tile: Option<TileAt>,
 ) -> Result<(), NoMemory>
-    ensures { OnOk result (switches index.now.chip.now rows.new.items ≡ switches index.now.chip.now rows.old.items ++ option_map_or (cluster_link index.now.chip.now cells.now cluster.now) tile []) }
+    ensures { OnOk result
+        (switches index.now.chip.now rows.new.items ≡ switches index.now.chip.now rows.old.items
+        ++ option_map_or (cluster_link index.now.chip.now cells.now cluster.now) tile []) }
 {
     match tile {
         None => Ok(()),
@@ -193,7 +208,9 @@ pub fn push_links(
     tiles: &[TileAt],
     clusters: &[Cluster],
 ) -> Result<(), NoMemory>
-    ensures { OnOk result (switches index.now.chip.now rows.new.items ≡ switches index.now.chip.now rows.old.items ++ all_links index.now.chip.now cells.now tiles.now clusters.now) }
+    ensures { OnOk result
+        (switches index.now.chip.now rows.new.items ≡ switches index.now.chip.now rows.old.items
+        ++ all_links index.now.chip.now cells.now tiles.now clusters.now) }
 {
     for (k, cluster) in clusters.iter().enumerate() {
         push_cluster_at(rows, index, cells, cluster, tile_at(tiles, k))?;

@@ -59,7 +59,8 @@ fn no_owners(alloc: Global, wires: u32) -> Result<Vec<Option<u32>>, NoMemory>
 /// The number of the first tree that holds each wire, of so many wires. More than 4,294,967,295 trees count as want of memory.
 #[tactic(auto, using(crate::proofs::Holdings::owners_are))]
 pub fn owners_of(alloc: Global, wires: u32, trees: &[Tree]) -> Result<Vec<Option<u32>>, NoMemory>
-    ensures { IfOk result (λ owners. owners.items ≡ table (owner_from 0 (map route_of trees.now)) wires) }
+    ensures { IfOk result (λ owners.
+        owners.items ≡ table (owner_from 0 (map route_of trees.now)) wires) }
 {
     to_u32(trees.len())?;
     let mut owners = no_owners(alloc, wires)?;

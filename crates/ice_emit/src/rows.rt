@@ -12,7 +12,9 @@ use ice_graph::Tree;
 /// Adds a row, if there is one.
 #[tactic(auto, using(crate::proofs::Listed::one_more, crate::proofs::Listed::no_more))]
 pub fn push_row(rows: &mut Vec<RowNo>, row: Option<RowNo>) -> Result<(), NoMemory>
-    ensures { (parts : Parts) → OnOk result (switches parts rows.new.items ≡ switches parts rows.old.items ++ listed (option_and_then (tree_switch parts) row)) }
+    ensures { (parts : Parts)
+        → OnOk result (switches parts rows.new.items
+        ≡ switches parts rows.old.items ++ listed (option_and_then (tree_switch parts) row)) }
 {
     if let Some(row) = row {
         rows.push(row)?;

@@ -51,7 +51,8 @@ fn rows_of(
     placed: &Placed<'_>,
     trees: &[Tree],
 ) -> Result<Vec<RowNo>, NoMemory>
-    ensures { IfOk result (λ rows. switches index.now.chip.now rows.items ≡ wanted_rows index.now.chip.now (plan_in placed.now) (map route_of trees.now)) }
+    ensures { IfOk result (λ rows. switches index.now.chip.now rows.items
+        ≡ wanted_rows index.now.chip.now (plan_in placed.now) (map route_of trees.now)) }
 {
     let mut rows = Vec::new(alloc);
     push_trees(&mut rows, trees)?;
@@ -74,7 +75,9 @@ fn settings_of(
     rows: &[RowNo],
 ) -> Result<Vec<Setting>, NoMemory>
     requires { IsRouted routed.now }
-    ensures { IfOk result (λ made. views made.items ≡ settings routed.now.placed.chip.now (plan_in routed.now.placed) pullups.now (held_in routed.now) (switches routed.now.placed.chip.now rows.now)) }
+    ensures { IfOk result (λ made.
+        views made.items ≡ settings routed.now.placed.chip.now (plan_in routed.now.placed)
+        pullups.now (held_in routed.now) (switches routed.now.placed.chip.now rows.now)) }
 {
     let chip = routed.placed.chip;
     let ports = routed.placed.design.pads();
@@ -96,7 +99,10 @@ fn settings_in(
 ) -> Result<Vec<Setting>, NoMemory>
     requires placed { IsPlacedOn placed.now.chip.now (plan_in placed.now) pullups.now }
     requires trees { AreTrees placed.now.chip.now (plan_in placed.now) (map route_of trees.now) }
-    ensures { IfOk result (λ made. views made.items ≡ settings placed.now.chip.now (plan_in placed.now) pullups.now (held_by placed.now.chip.now (plan_in placed.now) (map route_of trees.now)) (switches placed.now.chip.now rows.now)) }
+    ensures { IfOk result (λ made.
+        views made.items ≡ settings placed.now.chip.now (plan_in placed.now) pullups.now
+        (held_by placed.now.chip.now (plan_in placed.now) (map route_of trees.now))
+        (switches placed.now.chip.now rows.now)) }
 {
     cells_stand_in_one_slot();
     let wires = wires_of(alloc, placed)?;
@@ -118,7 +124,8 @@ fn bits_with(
     made: &[Setting],
     pads: &Pads,
 ) -> Result<Bits, NoMemory>
-    ensures { IfOk result (AreBitsWith chip.now rows.now made.now (extras_among chip.now pads.now.globals pads.now.direct numbers)) }
+    ensures { IfOk result (AreBitsWith chip.now rows.now made.now
+        (extras_among chip.now pads.now.globals pads.now.direct numbers)) }
 {
     let mut bits = blank(alloc, chip)?;
     turn_all_on(&mut bits, chip, rows);
@@ -140,13 +147,25 @@ pub fn emit_by(
     pads: &Pads,
     trees: &[Tree],
 ) -> Result<Bits, NoMemory>
-    requires placed { IsPlacedOn index.now.chip.now (plan_of design.now clusters.now placement.now pads.now) pads.now.pullups }
-    requires trees { AreTrees index.now.chip.now (plan_of design.now clusters.now placement.now pads.now) (map route_of trees.now) }
-    ensures written { IfOk result (IsWritten index.now.chip.now (plan_of design.now clusters.now placement.now pads.now) pads.now.pullups (map route_of trees.now)) }
-    ensures driven { IfOk result (λ bits. IsWired index.now.chip.now (bits_of bits) (wanted_rows index.now.chip.now (plan_of design.now clusters.now placement.now pads.now) (map route_of trees.now))) }
-    ensures loopless { IfOk result (λ bits. IsRingless index.now.chip.now → HasNoLoop index.now.chip.now (bits_of bits) bits.extras) }
-    ensures ring { IfOk result (λ bits. FaultsAreRings index.now.chip.now (bits_of bits) bits.extras) }
-    ensures realised { IfOk result (λ bits. HasNoLoop index.now.chip.now (bits_of bits) bits.extras → Realises index.now.chip.now (plan_of design.now clusters.now placement.now pads.now) (wanted_rows index.now.chip.now (plan_of design.now clusters.now placement.now pads.now) (map route_of trees.now)) (bits_of bits) bits.extras) }
+    requires placed { IsPlacedOn index.now.chip.now
+        (plan_of design.now clusters.now placement.now pads.now) pads.now.pullups }
+    requires trees { AreTrees index.now.chip.now
+        (plan_of design.now clusters.now placement.now pads.now) (map route_of trees.now) }
+    ensures written { IfOk result
+        (IsWritten index.now.chip.now (plan_of design.now clusters.now placement.now pads.now)
+        pads.now.pullups (map route_of trees.now)) }
+    ensures driven { IfOk result (λ bits.
+        IsWired index.now.chip.now (bits_of bits) (wanted_rows index.now.chip.now
+        (plan_of design.now clusters.now placement.now pads.now) (map route_of trees.now))) }
+    ensures loopless { IfOk result (λ bits.
+        IsRingless index.now.chip.now → HasNoLoop index.now.chip.now (bits_of bits) bits.extras) }
+    ensures ring { IfOk result (λ bits.
+        FaultsAreRings index.now.chip.now (bits_of bits) bits.extras) }
+    ensures realised { IfOk result (λ bits. HasNoLoop index.now.chip.now (bits_of bits) bits.extras
+        → Realises index.now.chip.now (plan_of design.now clusters.now placement.now pads.now)
+        (wanted_rows index.now.chip.now (plan_of design.now clusters.now placement.now pads.now)
+        (map route_of trees.now))
+        (bits_of bits) bits.extras) }
 {
     roots_are_led_to_pins(index.chip);
     designs_are_set(index.chip);
@@ -181,13 +200,23 @@ pub fn emit(
     pads: &Pads,
     trees: &[Tree],
 ) -> Result<Bits, NoMemory>
-    requires placed { IsPlacedOn chip.now (plan_of design.now clusters.now placement.now pads.now) pads.now.pullups }
-    requires trees { AreTrees chip.now (plan_of design.now clusters.now placement.now pads.now) (map route_of trees.now) }
-    ensures written { IfOk result (IsWritten chip.now (plan_of design.now clusters.now placement.now pads.now) pads.now.pullups (map route_of trees.now)) }
-    ensures driven { IfOk result (λ bits. IsWired chip.now (bits_of bits) (wanted_rows chip.now (plan_of design.now clusters.now placement.now pads.now) (map route_of trees.now))) }
-    ensures loopless { IfOk result (λ bits. IsRingless chip.now → HasNoLoop chip.now (bits_of bits) bits.extras) }
+    requires placed { IsPlacedOn chip.now
+        (plan_of design.now clusters.now placement.now pads.now) pads.now.pullups }
+    requires trees { AreTrees chip.now (plan_of design.now clusters.now placement.now pads.now)
+        (map route_of trees.now) }
+    ensures written { IfOk result
+        (IsWritten chip.now (plan_of design.now clusters.now placement.now pads.now)
+        pads.now.pullups (map route_of trees.now)) }
+    ensures driven { IfOk result (λ bits. IsWired chip.now (bits_of bits) (wanted_rows chip.now
+        (plan_of design.now clusters.now placement.now pads.now) (map route_of trees.now))) }
+    ensures loopless { IfOk result (λ bits.
+        IsRingless chip.now → HasNoLoop chip.now (bits_of bits) bits.extras) }
     ensures ring { IfOk result (λ bits. FaultsAreRings chip.now (bits_of bits) bits.extras) }
-    ensures realised { IfOk result (λ bits. HasNoLoop chip.now (bits_of bits) bits.extras → Realises chip.now (plan_of design.now clusters.now placement.now pads.now) (wanted_rows chip.now (plan_of design.now clusters.now placement.now pads.now) (map route_of trees.now)) (bits_of bits) bits.extras) }
+    ensures realised { IfOk result (λ bits. HasNoLoop chip.now (bits_of bits) bits.extras
+        → Realises chip.now (plan_of design.now clusters.now placement.now pads.now)
+        (wanted_rows chip.now (plan_of design.now clusters.now placement.now pads.now)
+        (map route_of trees.now))
+        (bits_of bits) bits.extras) }
 {
     let index = Index::new(alloc, chip)?;
     emit_by(alloc, &index, design, clusters, placement, pads, trees)

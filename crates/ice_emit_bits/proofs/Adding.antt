@@ -3,10 +3,11 @@ use Rattle.std.proofs.Common.{◌≡◌, ℕ, zero, suc, ◌+◌, ◌<◌, ◌�
 use Rattle.std.specs.Prelude.{◌&&◌, ◌||◌}
 use Rattle.std.specs.List.{list_any}
 use Rattle.std.proofs.lemmas.Option.{slice_get-get_or}
-use Rattle.ice_base.specs.declared.number.BitAt.{BitAt}
+use Rattle.ice_base.specs.declared.bit.BitAt.{BitAt}
 use Rattle.ice_base.specs.declared.number.TileAt.{TileAt}
 use Rattle.ice_chip.specs.Database.{Parts, same_tile}
-use Rattle.ice_bits.specs.Configuration.{Bits, Configuration, bits_of, IsOf, same_place}
+use Rattle.ice_bits.specs.Configuration.{Bits, Configuration, bits_of, same_place}
+use Rattle.ice_bits.specs.Grids.{IsOf}
 use Rattle.ice_bits.specs.Rewriting.{Rewrites}
 use Rattle.ice_bits.specs.Written.{with_bit}
 use Rattle.ice_bits_rows.specs.Sound.{value_at}

@@ -3,7 +3,7 @@ use Rattle.std.proofs.Common.{◌≡◌, ℕ, ◌<◌, Bool, true, false, Option
 use Rattle.std.specs.Prelude.{◌&&◌, slice_get, find, All, nat_lt}
 use Rattle.std.specs.Option.{option_map_or, option_and_then}
 use Rattle.std.proofs.lemmas.Bool.{and_parts, lt-ltb}
-use Rattle.ice_base.specs.declared.number.BitAt.{BitAt}
+use Rattle.ice_base.specs.declared.bit.BitAt.{BitAt}
 use Rattle.ice_base.specs.declared.number.TileAt.{TileAt}
 use Rattle.ice_base.proofs.Keys.{place_same, place_self, tile_same}
 use Rattle.ice_base_values.specs.Order.{Has}
@@ -11,12 +11,14 @@ use Rattle.ice_base_values.proofs.Members.{find_Has, Has_all}
 use Rattle.ice_chip.specs.Database.{Parts, FunctionRow, SwitchGroup, SwitchRow, same_tile, columns}
 use Rattle.ice_chip.specs.Functions.{same_kind}
 use Rattle.ice_chip.specs.IsRead.{IsChip}
-use Rattle.ice_chip.specs.Lookups.{kind_at, function_of, is_function, rows_of}
+use Rattle.ice_chip.specs.Lookups.{kind_at, function_of, is_function}
+use Rattle.ice_chip.specs.Listings.{rows_of}
 use Rattle.ice_chip.specs.Within.{IsBit, IsKept}
 use Rattle.ice_chip.specs.declared.rows.TileKind.{TileKind}
 use Rattle.ice_chip.specs.declared.rows.TileKind.TheVariants.{Io, Logic, RamBottom, RamTop}
 use Rattle.ice_chip_laws.specs.Groups.{HasGroups, HasRows}
-use Rattle.ice_bits.specs.Configuration.{Configuration, IsOf, same_place, is_bit_of, bits_of}
+use Rattle.ice_bits.specs.Configuration.{Configuration, same_place, bits_of}
+use Rattle.ice_bits.specs.Grids.{IsOf, is_bit_of}
 use Rattle.ice_bits.specs.Settings.{function_bit}
 use Rattle.ice_emit_rows_laws.specs.Settings.{sets_one}
 use Rattle.ice_emit_bits.specs.Adds.{Adds, one_bit, setting_of}

@@ -1,10 +1,11 @@
 -- Bits that are set beside those that are there.
 use Rattle.std.specs.Prelude.{◌≡◌, ℕ, ◌||◌, ◌&&◌, Bool, List, slice_get}
-use Rattle.ice_base.specs.declared.number.BitAt.{BitAt}
+use Rattle.ice_base.specs.declared.bit.BitAt.{BitAt}
 use Rattle.ice_base.specs.declared.number.TileAt.{TileAt}
 use Rattle.ice_chip.specs.Database.{Parts, same_tile}
-use Rattle.ice_chip.specs.Lookups.{rows_of}
-use Rattle.ice_bits.specs.Configuration.{Bits, Configuration, bits_of, IsOf, same_place}
+use Rattle.ice_chip.specs.Listings.{rows_of}
+use Rattle.ice_bits.specs.Configuration.{Bits, Configuration, bits_of, same_place}
+use Rattle.ice_bits.specs.Grids.{IsOf}
 use Rattle.ice_bits_rows.specs.Sound.{value_at}
 use Rattle.ice_emit_rows_laws.specs.Settings.{Setting}
 use Rattle.ice_emit_rows_laws.specs.Wanted.{sets_of}

@@ -1,8 +1,8 @@
 //! The bits of one row, and a bit of a function.
 ghost use Rattle.std.specs.Prelude.{◌≡◌, true, length};
-ghost use Rattle.ice_base.specs.declared.number.BitAt.{BitAt};
+ghost use Rattle.ice_base.specs.declared.bit.BitAt.{BitAt};
 ghost use Rattle.ice_base_values.specs.Order.{Has};
-ghost use Rattle.ice_bits.specs.Configuration.{IsOf, is_bit_of};
+ghost use Rattle.ice_bits.specs.Grids.{IsOf, is_bit_of};
 ghost use Rattle.ice_bits.specs.Settings.{function_bit};
 ghost use Rattle.ice_chip_laws.specs.Bits.{function_place};
 ghost use Rattle.ice_emit_rows_laws.specs.Settings.{sets_one};
@@ -30,7 +30,8 @@ fn set_if(bits: &mut Bits, chip: &Chip, tile: TileAt, place: BitAt, value: bool)
 #[tactic(auto, using(crate::proofs::Adding::all_left, crate::proofs::Adding::values_next, crate::proofs::Adding::values_done, crate::proofs::Adding::has_read))]
 fn set_ones(bits: &mut Bits, chip: &Chip, tile: TileAt, places: &[BitAt], values: &[bool])
     requires form { IsOf chip.now bits.old }
-    requires places { (place : BitAt) → Has places.now place → is_bit_of chip.now tile place ≡ true }
+    requires places { (place : BitAt) → Has places.now place
+        → is_bit_of chip.now tile place ≡ true }
     requires paired { length values.now ≡ length places.now }
     ensures { Adds chip.now bits.old bits.new (values_in tile places.now values.now) }
 {
@@ -72,7 +73,8 @@ fn place_of(chip: &Chip, tile: TileAt, name: &[u8], number: usize) -> Option<Bit
 #[tactic(auto, using(crate::proofs::Placing::nowhere_added, crate::proofs::Placing::somewhere_added, crate::proofs::Placing::place_is_there))]
 pub fn set_one(bits: &mut Bits, chip: &Chip, tile: TileAt, name: &[u8], number: usize)
     requires form { IsOf chip.now bits.old }
-    ensures { Adds chip.now bits.old bits.new (λ t b. sets_one chip.now t b (setting_of tile name.now number)) }
+    ensures { Adds chip.now bits.old bits.new (λ t b.
+        sets_one chip.now t b (setting_of tile name.now number)) }
 {
     chip.is_chip();
     if let Some(place) = place_of(chip, tile, name, number) {

@@ -2,7 +2,7 @@
 ghost use Rattle.std.specs.Prelude.{◌≡◌, map};
 ghost use Rattle.std.specs.List.{list_any};
 ghost use Rattle.ice_base.specs.declared.number.RowNo.{RowNo};
-ghost use Rattle.ice_bits.specs.Configuration.{IsOf};
+ghost use Rattle.ice_bits.specs.Grids.{IsOf};
 ghost use Rattle.ice_emit_rows_laws.specs.Settings.{sets_one, function_bits};
 ghost use Rattle.ice_emit_bits.specs.Adds.{Adds};
 ghost use Rattle.ice_emit_bits.specs.Lists.{setting_view, all_rows};
@@ -29,7 +29,8 @@ pub struct Setting {
 // Sets the bit of a setting.
 fn set(bits: &mut Bits, chip: &Chip, setting: &Setting)
     requires form { IsOf chip.now bits.old }
-    ensures { Adds chip.now bits.old bits.new (λ t b. sets_one chip.now t b (setting_view setting.now)) }
+    ensures { Adds chip.now bits.old bits.new (λ t b.
+        sets_one chip.now t b (setting_view setting.now)) }
 {
     let tile = setting.tile;
     let number = usize::from(setting.number);
@@ -66,7 +67,8 @@ fn set(bits: &mut Bits, chip: &Chip, setting: &Setting)
 #[tactic(auto, using(crate::proofs::Adding::all_left, crate::proofs::Listing::settings_next, crate::proofs::Listing::settings_done))]
 pub fn set_all(bits: &mut Bits, chip: &Chip, settings: &[Setting])
     requires form { IsOf chip.now bits.old }
-    ensures { Adds chip.now bits.old bits.new (function_bits chip.now (map setting_view settings.now)) }
+    ensures { Adds chip.now bits.old bits.new
+        (function_bits chip.now (map setting_view settings.now)) }
 {
     for setting in settings {
         set(bits, chip, setting);

@@ -5,7 +5,8 @@ use Rattle.ice_base.specs.declared.number.WireNo.{WireNo}
 use Rattle.ice_base_values.specs.Order.{At, Has}
 use Rattle.ice_chip.specs.Database.{Parts}
 use Rattle.ice_chip.specs.Lookups.{kind_at, wire_named, global_of}
-use Rattle.ice_chip.specs.Names.{input_name, clock_name, clock_enable_name, set_reset_name, fabout_name, pad_input_name, pad_output_name, output_enable_name, carry_out_name, first_carry_name}
+use Rattle.ice_chip.specs.Names.{input_name, pad_input_name, pad_output_name, output_enable_name}
+use Rattle.ice_chip.specs.WireNames.{clock_name, clock_enable_name, set_reset_name, fabout_name, carry_out_name, first_carry_name}
 use Rattle.ice_chip.specs.declared.rows.Pad.{Pad}
 use Rattle.ice_chip.specs.declared.rows.TileKind.TheVariants.{Logic}
 use Rattle.ice_decode.specs.declared.driver.Switch.{Switch}

@@ -4,8 +4,10 @@ use Rattle.std.specs.Option.{option_and_then}
 use Rattle.ice_base.specs.declared.number.RowNo.{RowNo}
 use Rattle.ice_base.specs.declared.number.TileAt.{TileAt}
 use Rattle.ice_chip.specs.Database.{Parts, SwitchGroup, SwitchRow}
-use Rattle.ice_chip.specs.Lookups.{rows_of, wire_named}
-use Rattle.ice_chip.specs.Names.{input_name, carry_out_name, carry_in_name, first_carry_name}
+use Rattle.ice_chip.specs.Lookups.{wire_named}
+use Rattle.ice_chip.specs.Listings.{rows_of}
+use Rattle.ice_chip.specs.Names.{input_name}
+use Rattle.ice_chip.specs.WireNames.{carry_out_name, carry_in_name, first_carry_name}
 use Rattle.ice_decode.specs.declared.driver.Switch.{Switch}
 use Rattle.ice_decode.specs.Drivers.{switch}
 use Rattle.ice_bits_rows.specs.FirstSound.{first_sound}

@@ -3,7 +3,8 @@ use Rattle.std.specs.Prelude.{◌≡◌, ℕ, zero, ◌<◌, Bool, true, false, 
 use Rattle.ice_base.specs.declared.number.TileAt.{TileAt}
 use Rattle.ice_base_values.specs.Order.{At, Has}
 use Rattle.ice_chip.specs.Database.{Parts}
-use Rattle.ice_chip.specs.Names.{falling_clock_function, carry_set_function, input_enable_function}
+use Rattle.ice_chip.specs.Names.{falling_clock_function, input_enable_function}
+use Rattle.ice_chip.specs.FunctionNames.{carry_set_function}
 use Rattle.ice_chip.specs.Indices.{enables_of}
 use Rattle.ice_chip.specs.declared.rows.Pad.{Pad}
 use Rattle.ice_bits.specs.Configuration.{Bits}
@@ -13,7 +14,7 @@ use Rattle.ice_net.specs.declared.kind.Reset.TheVariants.{Nothing, SyncReset, As
 use Rattle.ice_net.specs.Meaning.{number_of, table_bit}
 use Rattle.ice_decode.specs.declared.driver.Switch.{Switch}
 use Rattle.ice_decode.specs.Cells.{has_flop, has_carry, looked_up, reset_of}
-use Rattle.ice_decode.specs.Faults.{foreign_function}
+use Rattle.ice_decode.specs.FirstFaults.{foreign_function}
 use Rattle.ice_decode.specs.Meaning.{passes}
 use Rattle.ice_decode.specs.Pads.{pads, pin_type, is_enabled}
 use Rattle.ice_cells.specs.declared.cell.Control.{Control}

@@ -1,13 +1,14 @@
 -- The bits of a placed and routed design.
 use Rattle.std.specs.Prelude.{◌≡◌, ℕ, nat_eq, ◌&&◌, ◌||◌, Bool, false, Option, None, Some, List, [], ◌∷◌, map, filter, filter_map, if◌then◌else◌}
-use Rattle.ice_base.specs.declared.number.BitAt.{BitAt}
+use Rattle.ice_base.specs.declared.bit.BitAt.{BitAt}
 use Rattle.ice_base.specs.declared.number.RowNo.{RowNo}
 use Rattle.ice_base.specs.declared.number.TileAt.{TileAt}
 use Rattle.ice_base.specs.declared.number.WireNo.{WireNo}
 use Rattle.ice_chip.specs.Database.{Parts}
 use Rattle.ice_chip.specs.Lookups.{padin_of}
 use Rattle.ice_decode.specs.declared.driver.Switch.{Switch}
-use Rattle.ice_bits.specs.Configuration.{Configuration, Bits, bits_of, IsOf}
+use Rattle.ice_bits.specs.Configuration.{Configuration, Bits, bits_of}
+use Rattle.ice_bits.specs.Grids.{IsOf}
 use Rattle.ice_emit_rows_laws.specs.Wanted.{set_bits}
 use Rattle.ice_emit_rows_laws.specs.Settings.{function_bits}
 use Rattle.ice_pads.specs.Globals.{numbers}

@@ -12,7 +12,8 @@ use Rattle.ice_base_values.proofs.Members.{Has_none, Has_cases, filter_Has, At_m
 use Rattle.ice_base_values.proofs.Together.{Has_head, Has_tail}
 use Rattle.ice_chip.specs.Database.{Parts, PackageRows, SwitchGroup, SwitchRow}
 use Rattle.ice_chip.specs.Lookups.{wire_named}
-use Rattle.ice_chip.specs.Names.{input_name, carry_out_name, carry_in_name, first_carry_name}
+use Rattle.ice_chip.specs.Names.{input_name}
+use Rattle.ice_chip.specs.WireNames.{carry_out_name, carry_in_name, first_carry_name}
 use Rattle.ice_chip_laws.specs.Groups.{HasRows}
 use Rattle.ice_decode.specs.declared.driver.Switch.{Switch}
 use Rattle.ice_decode.specs.Drivers.{switch}

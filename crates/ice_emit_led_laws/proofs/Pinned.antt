@@ -9,7 +9,8 @@ use Rattle.ice_base_values.specs.Order.{At, Has}
 use Rattle.ice_base_values.proofs.Places.{At_same}
 use Rattle.ice_chip.specs.Database.{Parts, PackageRows}
 use Rattle.ice_chip.specs.Lookups.{kind_at, wire_named, global_of}
-use Rattle.ice_chip.specs.Names.{input_name, fabout_name}
+use Rattle.ice_chip.specs.Names.{input_name}
+use Rattle.ice_chip.specs.WireNames.{fabout_name}
 use Rattle.ice_chip.specs.declared.rows.Pad.{Pad}
 use Rattle.ice_chip.specs.declared.rows.TileKind.TheVariants.{Io, Logic}
 use Rattle.ice_chip.specs.declared.wire_names.TileWire.TheVariants as wires

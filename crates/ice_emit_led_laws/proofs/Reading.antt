@@ -7,7 +7,8 @@ use Rattle.ice_base_values.specs.Order.{At, Has}
 use Rattle.ice_base_values.proofs.Members.{Has_any}
 use Rattle.ice_chip.specs.Database.{Parts, PackageRows}
 use Rattle.ice_chip.specs.Lookups.{kind_at, wire_named}
-use Rattle.ice_chip.specs.Names.{fabout_name, pad_output_name, output_enable_name}
+use Rattle.ice_chip.specs.Names.{pad_output_name, output_enable_name}
+use Rattle.ice_chip.specs.WireNames.{fabout_name}
 use Rattle.ice_chip.specs.declared.rows.TileKind.TheVariants.{Io, Logic}
 use Rattle.ice_net.specs.declared.kind.Reset.{Reset}
 use Rattle.ice_decode.proofs.Members.{Has_left, Has_right}

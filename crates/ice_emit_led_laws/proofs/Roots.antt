@@ -13,9 +13,9 @@ use Rattle.ice_base_values.specs.Order.{At, Has}
 use Rattle.ice_base_values.proofs.Members.{any_Has}
 use Rattle.ice_chip.specs.Database.{Parts, PackageRows}
 use Rattle.ice_chip.specs.Lookups.{kind_at, names_of, wire_named, placed_at}
-use Rattle.ice_chip.specs.Names.{is_global_name, input_name, output_name, pad_input_name, global_name}
+use Rattle.ice_chip.specs.Names.{is_global_name, input_name, pad_input_name}
 use Rattle.ice_chip.specs.PinNames.{is_output_of}
-use Rattle.ice_chip.specs.WireNames.{wire_name}
+use Rattle.ice_chip.specs.WireNames.{wire_name, output_name, global_name}
 use Rattle.ice_chip.specs.declared.rows.Pad.{Pad}
 use Rattle.ice_chip.specs.declared.rows.TileKind.{TileKind}
 use Rattle.ice_chip.specs.declared.rows.TileKind.TheVariants.{Io, Logic, RamBottom, RamTop}

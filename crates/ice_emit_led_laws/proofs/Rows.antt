@@ -12,8 +12,8 @@ use Rattle.ice_base_values.proofs.Members.{filter_Has}
 use Rattle.ice_base_values.proofs.Places.{At_same}
 use Rattle.ice_chip.specs.Database.{Parts, PackageRows}
 use Rattle.ice_chip.specs.Lookups.{kind_at, wire_named, is_io_kind}
-use Rattle.ice_chip.specs.Names.{is_global_name, pad_input_name, carry_out_name, carry_in_name, first_carry_name}
-use Rattle.ice_chip.specs.WireNames.{wire_name}
+use Rattle.ice_chip.specs.Names.{is_global_name, pad_input_name}
+use Rattle.ice_chip.specs.WireNames.{wire_name, carry_out_name, carry_in_name, first_carry_name}
 use Rattle.ice_chip.specs.declared.rows.TileLine.{TileLine}
 use Rattle.ice_chip.specs.declared.rows.Pad.{Pad}
 use Rattle.ice_chip.specs.declared.rows.TileKind.{TileKind}

@@ -4,7 +4,8 @@ use Rattle.ice_base.specs.declared.number.TileAt.{TileAt}
 use Rattle.ice_base_values.specs.Order.{At, Has}
 use Rattle.ice_chip.specs.Database.{Parts}
 use Rattle.ice_chip.specs.Lookups.{kind_at, wire_named}
-use Rattle.ice_chip.specs.Names.{input_name, pad_input_name, carry_out_name}
+use Rattle.ice_chip.specs.Names.{input_name, pad_input_name}
+use Rattle.ice_chip.specs.WireNames.{carry_out_name}
 use Rattle.ice_chip.specs.declared.rows.Pad.{Pad}
 use Rattle.ice_chip.specs.declared.rows.TileKind.TheVariants.{Logic}
 use Rattle.ice_decode.specs.declared.driver.Switch.{Switch}

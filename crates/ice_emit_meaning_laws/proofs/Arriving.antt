@@ -9,7 +9,8 @@ use Rattle.ice_base_values.specs.Order.{At, Has}
 use Rattle.ice_base_values.specs.System.{reading}
 use Rattle.ice_base_values.proofs.Members.{At_map}
 use Rattle.ice_chip.specs.Lookups.{gbufpin_of, kind_at, wire_named}
-use Rattle.ice_chip.specs.Names.{input_name, pad_input_name, fabout_name, global_name}
+use Rattle.ice_chip.specs.Names.{input_name, pad_input_name}
+use Rattle.ice_chip.specs.WireNames.{fabout_name, global_name}
 use Rattle.ice_chip.specs.declared.rows.Pad.{Pad}
 use Rattle.ice_chip.specs.declared.rows.TileKind.TheVariants.{Io}
 use Rattle.ice_net.specs.declared.kind.Reset.{Reset}

@@ -19,7 +19,8 @@ use Rattle.ice_base.proofs.Keys.{tile_self, nat_self}
 use Rattle.ice_decode.specs.declared.driver.Switch.{Switch}
 use Rattle.ice_decode.specs.Direct.{is_padin}
 use Rattle.ice_decode.specs.Drivers.{driver, switches_on}
-use Rattle.ice_decode.specs.Faults.{or_else, first_of, contended_by, contention, is_memory_output, is_foreign_wire, foreign_source, is_output_part, is_input_type, is_wire_read, is_input_read, has_wrong_type, wrong_pad, HasNoLoop}
+use Rattle.ice_decode.specs.Faults.{is_memory_output, is_foreign_wire, is_output_part, is_input_type, is_wire_read, is_input_read, has_wrong_type, HasNoLoop}
+use Rattle.ice_decode.specs.FirstFaults.{or_else, first_of, contended_by, contention, foreign_source, wrong_pad}
 use Rattle.ice_decode.specs.Pads.{pads, pin_type}
 use Rattle.ice_decode.specs.Refusals.{IsFaultless, IsFaultOf, IsOfChip}
 use Rattle.ice_decode.specs.declared.fault.DecodeFault.{DecodeFault}

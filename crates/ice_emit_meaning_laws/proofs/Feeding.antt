@@ -14,7 +14,7 @@ use Rattle.ice_base_values.proofs.Members.{Has_all}
 use Rattle.ice_chip.specs.Database.{Parts}
 use Rattle.ice_chip.specs.IsRead.{IsRead}
 use Rattle.ice_chip.specs.Lookups.{global_of, wire_named}
-use Rattle.ice_chip.specs.Names.{fabout_name}
+use Rattle.ice_chip.specs.WireNames.{fabout_name}
 use Rattle.ice_chip.specs.Within.{FeedsGlobal}
 use Rattle.ice_chip_laws.specs.Laws.{IsLawful}
 use Rattle.ice_decode.specs.declared.role.Role.{Role}

@@ -4,7 +4,7 @@ use Rattle.ice_base.specs.declared.number.TileAt.{TileAt}
 use Rattle.ice_base.proofs.Options.{option_map_some}
 use Rattle.ice_chip.specs.Database.{Parts}
 use Rattle.ice_chip.specs.Lookups.{global_of, wire_named}
-use Rattle.ice_chip.specs.Names.{fabout_name}
+use Rattle.ice_chip.specs.WireNames.{fabout_name}
 use Rattle.ice_chip_laws.specs.Laws.{IsLawful}
 use Rattle.ice_decode.specs.declared.point.Point.{Point}
 use Rattle.ice_decode.specs.declared.point.Point.TheVariants.{Wire, Carry}

@@ -9,7 +9,6 @@ mod Starts
 mod WireLevels
 mod DirectGlobals
 mod Arriving
-mod CellRoles
 mod OtherWires
 mod Rings
 mod PadTypes

@@ -7,7 +7,8 @@ use Rattle.ice_base.specs.declared.number.TileAt.{TileAt}
 use Rattle.ice_base.proofs.Keys.{nat_same, nat_self}
 use Rattle.ice_base_values.specs.Order.{Has}
 use Rattle.ice_chip.specs.Lookups.{kind_at, wire_named}
-use Rattle.ice_chip.specs.Names.{input_name, carry_out_name}
+use Rattle.ice_chip.specs.Names.{input_name}
+use Rattle.ice_chip.specs.WireNames.{carry_out_name}
 use Rattle.ice_chip.specs.declared.rows.Pad.{Pad}
 use Rattle.ice_chip.specs.declared.rows.TileKind.TheVariants.{Logic}
 use Rattle.ice_decode.specs.declared.point.Point.{Point}
@@ -20,7 +21,7 @@ use Rattle.ice_decode.specs.Cells.{has_flop, logic_tiles}
 use Rattle.ice_decode.specs.Meaning.{kept_at, tile_place, role_makes}
 use Rattle.ice_decode.specs.Reads.{wire_point, at_pin, cell_inputs, role_reads}
 use Rattle.ice_decode.specs.Drivers.{role_of}
-use Rattle.ice_decode.proofs.RolePlaces.{IsCell}
+use Rattle.ice_decode.proofs.RolePlaces.{IsCell, IsOfCell, role_of_cell}
 use Rattle.ice_cells.specs.declared.cell.LogicCell.{LogicCell}
 use Rattle.ice_cells.specs.declared.root.Root.TheVariants as root
 use Rattle.ice_cells.specs.Nodes.{Node, Net}
@@ -30,7 +31,6 @@ use Rattle.ice_emit_defs.specs.Slots.{StandsIn}
 use Rattle.ice_emit_meaning_laws.proofs.Premises.{Premises}
 use Rattle.ice_emit_meaning_laws.proofs.Arriving.{arrives, source_level, v}
 use Rattle.ice_emit_meaning_laws.proofs.CarriesIn.{IsInRun, run_before}
-use Rattle.ice_emit_meaning_laws.proofs.CellRoles.{Fits, cell_fits}
 use Rattle.ice_emit_meaning_laws.proofs.Pins.{input_plain, carry_is}
 use Rattle.ice_emit_meaning_laws.proofs.Slots.{logic_on, stands_or_none}
 use Rattle.ice_emit_meaning_laws.proofs.Starts.{AtCarry, below_is, root_starts}
@@ -151,7 +151,7 @@ module _ (g : Premises) (bonded : List Pad) (levels kept kept_cells : List Bool)
   by_role w r xs none is have = (makes_of r xs, wire_made g.parts g.bits g.extras bonded levels kept w Nothing r xs (makes_of r xs) (g.wired.bare w none) is have refl)
 
   -- a wire that is no global
-  other_valued : (w : ℕ) → IsBare g.wanted w → (r : Role) → role_of g.parts w ≡ r → Fits g.parts r → ((n : ℕ) → r ≡ Global n → ⊥) → IsValued (wire_point w)
+  other_valued : (w : ℕ) → IsBare g.wanted w → (r : Role) → role_of g.parts w ≡ r → IsOfCell g.parts r → ((n : ℕ) → r ≡ Global n → ⊥) → IsValued (wire_point w)
   other_valued w none Plain is fits not = by_role w Plain [] none is tt
   other_valued w none (Output t i) is fits not = by (has_flop g.parts g.bits t i) refl
     where
@@ -167,7 +167,7 @@ module _ (g : Premises) (bonded : List Pad) (levels kept kept_cells : List Bool)
   other_valued w none ClockEnable is fits not = by_role w ClockEnable [] none is tt
 
   -- ---- all wires
-  bare_cases : (w : ℕ) → IsBare g.wanted w → (r : Role) → role_of g.parts w ≡ r → Fits g.parts r → IsValued (wire_point w) ⊎ IsBareGlobal g w
+  bare_cases : (w : ℕ) → IsBare g.wanted w → (r : Role) → role_of g.parts w ≡ r → IsOfCell g.parts r → IsValued (wire_point w) ⊎ IsBareGlobal g w
   bare_cases w none Plain is fits = inl (other_valued w none Plain is fits (λ n e. cc e))
   bare_cases w none (Output t i) is fits = inl (other_valued w none (Output t i) is fits (λ n e. cc e))
   bare_cases w none (LookUp t i) is fits = inl (other_valued w none (LookUp t i) is fits (λ n e. cc e))
@@ -182,7 +182,7 @@ module _ (g : Premises) (bonded : List Pad) (levels kept kept_cells : List Bool)
     where
       by : ((s : Switch) × Has g.wanted s × (s.target.0 ≡ w)) ⊎ IsBare g.wanted w → IsValued (wire_point w) ⊎ IsBareGlobal g w
       by (inl one) = inl (subst (λ u. IsValued (wire_point u)) one.2 (entered one.0 one.1))
-      by (inr none) = bare_cases w none (role_of g.parts w) refl (cell_fits g.parts w)
+      by (inr none) = bare_cases w none (role_of g.parts w) refl (role_of_cell g.parts w)
 
 -- before the first step
 pub nothing_kept : (g : Premises) (t : TileAt) (i : ℕ) → kept_at g.parts [] t i ≡ false

@@ -6,7 +6,8 @@ use Rattle.ice_base.proofs.Keys.{bytes_same}
 use Rattle.ice_base_values.proofs.Members.{any_Has}
 use Rattle.ice_chip.specs.Database.{Parts}
 use Rattle.ice_chip.specs.Lookups.{kind_at, names_of, wire_named}
-use Rattle.ice_chip.specs.Names.{is_global_name, input_name, output_name, carry_out_name, clock_name, clock_enable_name, set_reset_name, first_carry_name, pad_input_name, pad_output_name, output_enable_name, fabout_name, global_name}
+use Rattle.ice_chip.specs.Names.{is_global_name, input_name, pad_input_name, pad_output_name, output_enable_name}
+use Rattle.ice_chip.specs.WireNames.{output_name, carry_out_name, clock_name, clock_enable_name, set_reset_name, first_carry_name, fabout_name, global_name}
 use Rattle.ice_chip.specs.declared.rows.TileKind.{TileKind}
 use Rattle.ice_chip.specs.declared.rows.TileKind.TheVariants.{Io, Logic}
 use Rattle.ice_chip.specs.declared.placed.PlacedName.{PlacedName}

@@ -11,13 +11,14 @@ use Rattle.ice_base_values.proofs.Members.{At_within}
 use Rattle.ice_base_values.proofs.Places.{At_same}
 use Rattle.ice_chip.specs.Database.{Parts, same_tile}
 use Rattle.ice_chip.specs.Lookups.{kind_at, wire_named}
-use Rattle.ice_chip.specs.Names.{first_carry_name, input_name}
+use Rattle.ice_chip.specs.Names.{input_name}
+use Rattle.ice_chip.specs.WireNames.{first_carry_name}
 use Rattle.ice_chip.specs.declared.rows.TileKind.{TileKind}
 use Rattle.ice_chip.specs.declared.rows.TileKind.TheVariants.{Io, Logic, RamBottom, RamTop}
 use Rattle.ice_cells.specs.declared.cell.LogicCell.{LogicCell}
 use Rattle.ice_cells.specs.declared.cluster.Cluster.{Cluster}
 use Rattle.ice_cells.specs.Tables.{is_place}
-use Rattle.ice_cluster.specs.Slots.{Stands}
+use Rattle.ice_cluster.specs.Slots.{StandsInSlot}
 use Rattle.ice_sites.specs.Site.{leads, has_cell, has_controls, has_entry, has_chain, is_logic, all_below, is_site}
 use Rattle.ice_place_defs.specs.Plan.{Slot, slot_in, in_tile, first_slot, slot_among, slot_of, listed}
 use Rattle.ice_emit_defs.specs.Slots.{IsOn, StandsIn}
@@ -148,7 +149,7 @@ module _ (g : Premises) where
   pub logic_there : (t : TileAt) (i c : ℕ) (cell : LogicCell) → StandsIn g.plan t i c cell → kind_at g.parts t ≡ Some Logic
   logic_there t i c cell s = logic_on t s.cluster s.on
 
-  stands : (n i c : ℕ) (cluster : Cluster) → At g.plan.clusters n cluster → At cluster.cells i (Some c) → Stands (listed g.plan) n i c
+  stands : (n i c : ℕ) (cluster : Cluster) → At g.plan.clusters n cluster → At cluster.cells i (Some c) → StandsInSlot (listed g.plan) n i c
   stands n i c cluster at slot = record { cluster = cluster; at = at; slot = slot }
 
   cell_there : (c : ℕ) → c < length g.plan.design.cells → (cell : LogicCell) × At g.plan.design.cells c cell

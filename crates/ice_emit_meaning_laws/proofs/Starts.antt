@@ -8,7 +8,8 @@ use Rattle.ice_base.proofs.Options.{and_then_some}
 use Rattle.ice_base_values.specs.Order.{At, Has}
 use Rattle.ice_base_values.proofs.Places.{At_same}
 use Rattle.ice_chip.specs.Lookups.{wire_named}
-use Rattle.ice_chip.specs.Names.{output_name, carry_out_name, first_carry_name, pad_input_name}
+use Rattle.ice_chip.specs.Names.{pad_input_name}
+use Rattle.ice_chip.specs.WireNames.{output_name, carry_out_name, first_carry_name}
 use Rattle.ice_chip.specs.declared.rows.Pad.{Pad}
 use Rattle.ice_decode.specs.declared.driver.Switch.{Switch}
 use Rattle.ice_decode.specs.declared.driver.Driver.TheVariants.{Nothing}
@@ -24,7 +25,7 @@ use Rattle.ice_cells.specs.declared.design.Run.{Run}
 use Rattle.ice_cells.specs.declared.root.Root.{Root}
 use Rattle.ice_cells.specs.declared.root.Root.TheVariants.{PadIn, CellOut, GlobalOut, CarryOut}
 use Rattle.ice_cells.specs.Nodes.{Node, Net, Level}
-use Rattle.ice_cluster.specs.Slots.{Stands}
+use Rattle.ice_cluster.specs.Slots.{StandsInSlot}
 use Rattle.ice_pads.specs.Globals.{global_wire}
 use Rattle.ice_place_defs.specs.Plan.{slot_of, listed}
 use Rattle.ice_emit_nets.specs.Ends.{wire_no}
@@ -90,8 +91,8 @@ module _ (g : Premises) where
   chunk : (t : TileAt) (i c : ℕ) (cell : LogicCell) (s : StandsIn g.plan t i c cell) (is : IsInRun d c) → IsChunk t i c s.cluster is
   chunk t i c cell s is =
       let there = g.chunks.there is.number is.place c is.run is.run_is is.cell_is in
-      let here : Stands (listed g.plan) s.on.number i c = record { cluster = s.cluster; at = s.on.cluster_is; slot = s.slot } in
-      let also : Stands (listed g.plan) there.0 (is.place % 8) c = record { cluster = there.1; at = there.2; slot = there.4 } in
+      let here : StandsInSlot (listed g.plan) s.on.number i c = record { cluster = s.cluster; at = s.on.cluster_is; slot = s.slot } in
+      let also : StandsInSlot (listed g.plan) there.0 (is.place % 8) c = record { cluster = there.1; at = there.2; slot = there.4 } in
       let same = g.slots.once c s.on.number i there.0 (is.place % 8) here also in
       let cluster : there.1 ≡ s.cluster = At_same g.plan.clusters there.0 there.1 s.cluster there.2 (subst (λ n. At g.plan.clusters n s.cluster) same.0 s.on.cluster_is) in
       record { run_is = ap (λ (x : Cluster). x.run) (sym cluster) ∙ there.3; slot = same.1 }

@@ -7,14 +7,16 @@ use Rattle.ice_base.specs.declared.number.TileAt.{TileAt}
 use Rattle.ice_base.specs.declared.number.WireNo.{WireNo}
 use Rattle.ice_base.proofs.Keys.{tile_self}
 use Rattle.ice_base_values.specs.Order.{At, Has}
-use Rattle.ice_base_values.specs.System.{value, reading, Simulates, machine_shows}
+use Rattle.ice_base_values.specs.System.{value, reading, machine_shows}
+use Rattle.ice_base_values.specs.Simulations.{Simulates}
 use Rattle.ice_base_values.proofs.Machines.{shows_always_alike}
 use Rattle.ice_base_values.proofs.Members.{At_map, At_within}
 use Rattle.ice_base_values.proofs.Values.{value_at_more}
 use Rattle.ice_base_values.proofs.ListPlaces.{all_alike}
 use Rattle.ice_chip.specs.Lookups.{kind_at, wire_named}
 use Rattle.ice_chip.specs.Database.{same_tile}
-use Rattle.ice_chip.specs.Names.{input_name, clock_name, clock_enable_name, set_reset_name, pad_output_name, output_enable_name, falling_clock_function}
+use Rattle.ice_chip.specs.Names.{input_name, pad_output_name, output_enable_name, falling_clock_function}
+use Rattle.ice_chip.specs.WireNames.{clock_name, clock_enable_name, set_reset_name}
 use Rattle.ice_chip.specs.declared.rows.Pad.{Pad}
 use Rattle.ice_chip.specs.declared.rows.TileKind.TheVariants.{Io, Logic}
 use Rattle.ice_bits.specs.Settings.{set_at}

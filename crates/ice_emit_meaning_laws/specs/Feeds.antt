@@ -5,7 +5,7 @@ use Rattle.ice_base.specs.declared.number.TileAt.{TileAt}
 use Rattle.ice_base_values.specs.Order.{IsCycle}
 use Rattle.ice_chip.specs.Database.{Parts}
 use Rattle.ice_chip.specs.Lookups.{global_of, kind_at, wire_named}
-use Rattle.ice_chip.specs.Names.{fabout_name}
+use Rattle.ice_chip.specs.WireNames.{fabout_name}
 use Rattle.ice_chip.specs.declared.rows.TileKind.TheVariants.{Io}
 use Rattle.ice_decode.specs.declared.role.Role.{Role}
 use Rattle.ice_decode.specs.declared.role.Role.TheVariants.{Plain, Output, LookUp, CarryOut, PadInput, Global, CarryIn, ClockEnable}

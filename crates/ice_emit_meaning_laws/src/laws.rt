@@ -26,7 +26,12 @@ use ice_cluster::laws::{
 /// bits of functions say what the slots, tiles and pads of the design are; the extra bits that are set are those of the globals that direct
 /// global buffers have.
 pub fn bits_realise_their_design(chip: &Chip)
-    ensures { (package_rows : PackageRows) (plan : Plan) (pullups : List Bool) (wanted : List Switch) (held : Held) (bits : Bits) (extras : List (ℕ × ℕ × ℕ)) → extras ≡ plan_extras chip.now plan → HasNoLoop chip.now bits extras → IsPlaced chip.now package_rows plan pullups → AreLed chip.now plan wanted held → AreSet chip.now plan wanted held bits → IsWired chip.now bits wanted → Realises chip.now plan wanted bits extras }
+    ensures { (package_rows : PackageRows) (plan : Plan) (pullups : List Bool)
+        (wanted : List Switch) (held : Held) (bits : Bits) (extras : List (ℕ × ℕ × ℕ))
+        → extras ≡ plan_extras chip.now plan → HasNoLoop chip.now bits extras
+        → IsPlaced chip.now package_rows plan pullups → AreLed chip.now plan wanted held
+        → AreSet chip.now plan wanted held bits → IsWired chip.now bits wanted
+        → Realises chip.now plan wanted bits extras }
 {
     chip.is_chip();
     chip_is_lawful(chip);
@@ -37,7 +42,12 @@ pub fn bits_realise_their_design(chip: &Chip)
 
 /// The bits of a placed and routed design have no loop where no globals of the chip feed each other in a ring.
 pub fn bits_have_no_loop(chip: &Chip)
-    ensures { (package_rows : PackageRows) (plan : Plan) (pullups : List Bool) (wanted : List Switch) (held : Held) (bits : Bits) (extras : List (ℕ × ℕ × ℕ)) → extras ≡ plan_extras chip.now plan → IsRingless chip.now → IsPlaced chip.now package_rows plan pullups → AreLed chip.now plan wanted held → AreSet chip.now plan wanted held bits → IsWired chip.now bits wanted → HasNoLoop chip.now bits extras }
+    ensures { (package_rows : PackageRows) (plan : Plan) (pullups : List Bool)
+        (wanted : List Switch) (held : Held) (bits : Bits) (extras : List (ℕ × ℕ × ℕ))
+        → extras ≡ plan_extras chip.now plan → IsRingless chip.now
+        → IsPlaced chip.now package_rows plan pullups → AreLed chip.now plan wanted held
+        → AreSet chip.now plan wanted held bits → IsWired chip.now bits wanted
+        → HasNoLoop chip.now bits extras }
 {
     chip.is_chip();
     chip_is_lawful(chip);
@@ -48,7 +58,11 @@ pub fn bits_have_no_loop(chip: &Chip)
 
 /// The bits of a placed and routed design have a fault only where globals of the chip feed each other in a ring.
 pub fn faulty_bits_have_a_ring(chip: &Chip)
-    ensures { (package_rows : PackageRows) (plan : Plan) (pullups : List Bool) (wanted : List Switch) (held : Held) (bits : Bits) (extras : List (ℕ × ℕ × ℕ)) → extras ≡ plan_extras chip.now plan → IsPlaced chip.now package_rows plan pullups → AreLed chip.now plan wanted held → AreSet chip.now plan wanted held bits → IsWired chip.now bits wanted → FaultsAreRings chip.now bits extras }
+    ensures { (package_rows : PackageRows) (plan : Plan) (pullups : List Bool)
+        (wanted : List Switch) (held : Held) (bits : Bits) (extras : List (ℕ × ℕ × ℕ))
+        → extras ≡ plan_extras chip.now plan → IsPlaced chip.now package_rows plan pullups
+        → AreLed chip.now plan wanted held → AreSet chip.now plan wanted held bits
+        → IsWired chip.now bits wanted → FaultsAreRings chip.now bits extras }
 {
     chip.is_chip();
     chip_is_lawful(chip);

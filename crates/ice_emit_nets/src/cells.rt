@@ -27,7 +27,8 @@ fn push_bound(
     i: usize,
     cell: &LogicCell,
 ) -> Result<(), NoMemory>
-    ensures { OnOk result (ends.new.items ≡ ends.old.items ++ map (load_end chip.now) (cell_loads tile i cell.now)) }
+    ensures { OnOk result
+        (ends.new.items ≡ ends.old.items ++ map (load_end chip.now) (cell_loads tile i cell.now)) }
 {
     push_load(alloc, ends, chip, tile, TilePin::Input(i, 0), cell.ins[0])?;
     push_load(alloc, ends, chip, tile, TilePin::Input(i, 1), cell.ins[1])?;
@@ -92,7 +93,8 @@ fn push_slot(
     i: usize,
     slot: Option<u32>,
 ) -> Result<(), NoMemory>
-    ensures { OnOk result (ends.new.items ≡ ends.old.items ++ slot_gives (cell_ends chip.now) cells.now tile i slot) }
+    ensures { OnOk result
+        (ends.new.items ≡ ends.old.items ++ slot_gives (cell_ends chip.now) cells.now tile i slot) }
 {
     match slot {
         None => Ok(()),
@@ -127,7 +129,8 @@ fn push_set(
     tile: TileAt,
     control: Control,
 ) -> Result<(), NoMemory>
-    ensures { OnOk result (ends.new.items ≡ ends.old.items ++ control_ends chip.now tile (Some control)) }
+    ensures { OnOk result
+        (ends.new.items ≡ ends.old.items ++ control_ends chip.now tile (Some control)) }
 {
     push_load(alloc, ends, chip, tile, TilePin::Clock, control.clock)?;
     push_load(alloc, ends, chip, tile, TilePin::Enable, control.enable)?;

@@ -24,7 +24,8 @@ fn push_cluster(
     cluster: &Cluster,
     tile: TileAt,
 ) -> Result<(), NoMemory>
-    ensures { OnOk result (ends.new.items ≡ ends.old.items ++ cluster_ends chip.now cells.now cluster.now tile) }
+    ensures { OnOk result
+        (ends.new.items ≡ ends.old.items ++ cluster_ends chip.now cells.now cluster.now tile) }
 {
     push_slots(alloc, ends, chip, cells, tile, cluster.cells.as_slice())?;
     push_control(alloc, ends, chip, tile, cluster.control)?;
@@ -58,8 +59,8 @@ fn push_clusters(
     tiles: &[TileAt],
     clusters: &[Cluster],
 ) -> Result<(), NoMemory>
-    ensures { OnOk result (ends.new.items
-        ≡ ends.old.items ++ clusters_give (cell_ends chip.now) (control_ends chip.now) cells.now tiles.now clusters.now) }
+    ensures { OnOk result (ends.new.items ≡ ends.old.items ++ clusters_give (cell_ends chip.now)
+        (control_ends chip.now) cells.now tiles.now clusters.now) }
 {
     for (k, cluster) in clusters.iter().enumerate() {
         push_cluster_at(alloc, ends, chip, cells, cluster, tile_at(tiles, k))?;

@@ -25,7 +25,8 @@ fn is_read(sinks: &[Sink]) -> bool
 #[tactic(auto, using(crate::proofs::Numbers::numbered_more, crate::proofs::Numbers::net_more))]
 fn push_net(nets: &mut Vec<Net>, wire: Option<WireNo>, sinks: Items<Sink>) -> Result<(), NoMemory>
     requires { AreNumbered nets.old.items }
-    ensures nets { OnOk result (bare_nets nets.new.items ≡ bare_nets nets.old.items ++ one_net wire sinks) }
+    ensures nets { OnOk result
+        (bare_nets nets.new.items ≡ bare_nets nets.old.items ++ one_net wire sinks) }
     ensures numbers { OnOk result (AreNumbered nets.new.items) }
 {
     let Some(root) = wire else {
@@ -63,7 +64,8 @@ fn push_nets(
 
 /// The nets of all roots that have a wire and sinks: of pads, of cells and of global buffers, numbered in order.
 pub fn collect(alloc: Global, wires: &DrivenWires, lists: Lists) -> Result<Vec<Net>, NoMemory>
-    ensures nets { IfOk result (λ nets. bare_nets nets.items ≡ all_nets (wires_in wires.now) (sorted_in lists)) }
+    ensures nets { IfOk result (λ nets.
+        bare_nets nets.items ≡ all_nets (wires_in wires.now) (sorted_in lists)) }
     ensures numbers { IfOk result (λ nets. AreNumbered nets.items) }
 {
     let mut nets = Vec::new(alloc);

@@ -63,8 +63,8 @@ fn push_first(
     k: usize,
 ) -> Result<(), NoMemory>
     requires { k < length ins.now }
-    ensures { OnOk result (ends.new.items
-        ≡ ends.old.items ++ first_end targets.now (take k ins.now) (slice_index_or ins.now k None)) }
+    ensures { OnOk result (ends.new.items ≡ ends.old.items
+        ++ first_end targets.now (take k ins.now) (slice_index_or ins.now k None)) }
 {
     let before = &ins[..k];
     let Some(root) = ins[k] else {

@@ -21,8 +21,10 @@ use std::alloc::Global;
 // The nets of a placed design.
 #[tactic(auto, using(crate::proofs::Netting::nets_are))]
 fn nets_in(alloc: Global, placed: &Placed<'_>) -> Result<Vec<Net>, NoMemory>
-    ensures nets { IfOk result (λ nets. map bare_net nets.items ≡ nets_of placed.now.chip.now (plan_in placed.now)) }
-    ensures numbers { IfOk result (λ nets. map net_number nets.items ≡ range_with_len 0 (length nets.items)) }
+    ensures nets { IfOk result (λ nets.
+        map bare_net nets.items ≡ nets_of placed.now.chip.now (plan_in placed.now)) }
+    ensures numbers { IfOk result (λ nets.
+        map net_number nets.items ≡ range_with_len 0 (length nets.items)) }
 {
     let ends = ends_of(alloc, placed)?;
     let lists = lists_of(alloc, placed, ends)?;
@@ -71,7 +73,8 @@ pub fn nets_of(
 ) -> Result<Vec<Net>, NoMemory>
     ensures nets { IfOk result (λ nets. map bare_net nets.items
         ≡ nets_of chip.now (plan_of design.now clusters.now placement.now pads.now)) }
-    ensures numbers { IfOk result (λ nets. map net_number nets.items ≡ range_with_len 0 (length nets.items)) }
+    ensures numbers { IfOk result (λ nets.
+        map net_number nets.items ≡ range_with_len 0 (length nets.items)) }
 {
     nets_in(alloc, &placed_of(chip, design, clusters, placement, pads))
 }

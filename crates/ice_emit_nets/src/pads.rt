@@ -50,7 +50,8 @@ fn push_pad_at(
     pad: DesignPad,
     place: Option<Pad>,
 ) -> Result<(), NoMemory>
-    ensures { OnOk result (ends.new.items ≡ ends.old.items ++ option_map_or (pad_ends chip.now pad) place []) }
+    ensures { OnOk result
+        (ends.new.items ≡ ends.old.items ++ option_map_or (pad_ends chip.now pad) place []) }
 {
     match place {
         None => Ok(()),
@@ -73,7 +74,8 @@ pub(crate) fn push_pads(
     ports: &[Pad],
     pads: &[DesignPad],
 ) -> Result<(), NoMemory>
-    ensures { OnOk result (ends.new.items ≡ ends.old.items ++ map (load_end chip.now) (pads_loads ports.now pads.now)) }
+    ensures { OnOk result (ends.new.items
+        ≡ ends.old.items ++ map (load_end chip.now) (pads_loads ports.now pads.now)) }
 {
     for (k, pad) in pads.iter().enumerate() {
         push_pad_at(alloc, ends, chip, *pad, place_at(ports, k))?;
@@ -105,7 +107,8 @@ fn push_global_at(
     root: Option<Root>,
     number: Option<u8>,
 ) -> Result<(), NoMemory>
-    ensures { OnOk result (ends.new.items ≡ ends.old.items ++ option_map_or (global_ends chip.now root) number []) }
+    ensures { OnOk result
+        (ends.new.items ≡ ends.old.items ++ option_map_or (global_ends chip.now root) number []) }
 {
     match number {
         None => Ok(()),
@@ -129,8 +132,8 @@ pub(crate) fn push_globals(
     direct: &[bool],
     roots: &[Option<Root>],
 ) -> Result<(), NoMemory>
-    ensures { OnOk result (ends.new.items
-        ≡ ends.old.items ++ map (load_end chip.now) (globals_loads chip.now numbers.now (fed_roots direct.now roots.now))) }
+    ensures { OnOk result (ends.new.items ≡ ends.old.items ++ map (load_end chip.now)
+        (globals_loads chip.now numbers.now (fed_roots direct.now roots.now))) }
 {
     for (k, root) in roots.iter().enumerate() {
         let read = fed_root(direct, k, *root);

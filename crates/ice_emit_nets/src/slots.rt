@@ -29,7 +29,8 @@ fn kept(
 
 // Notes the slot of the cell that a slot holds.
 fn note_slot(slots: &mut Vec<Option<(TileAt, usize)>>, tile: TileAt, i: usize, cell: Option<u32>)
-    ensures { slots.new.items ≡ put_at (keep held_slot) None slots.old.items (held tile i cell) cell }
+    ensures { slots.new.items
+        ≡ put_at (keep held_slot) None slots.old.items (held tile i cell) cell }
 {
     if let Some(c) = cell {
         let place = c as usize;
@@ -50,7 +51,8 @@ fn note_tile(slots: &mut Vec<Option<(TileAt, usize)>>, tile: TileAt, cells: &[Op
 
 // Notes the slots of the cells of a cluster, if there is a tile for it.
 fn note_cluster(slots: &mut Vec<Option<(TileAt, usize)>>, cluster: &Cluster, tile: Option<TileAt>)
-    ensures { slots.new.items ≡ noted slots.old.items (option_map_or (cluster_slots cluster.now) tile []) }
+    ensures { slots.new.items
+        ≡ noted slots.old.items (option_map_or (cluster_slots cluster.now) tile []) }
 {
     if let Some(tile) = tile {
         note_tile(slots, tile, cluster.cells.as_slice());
@@ -59,7 +61,8 @@ fn note_cluster(slots: &mut Vec<Option<(TileAt, usize)>>, cluster: &Cluster, til
 
 // Notes the slots of the cells of clusters in these tiles.
 fn note_clusters(slots: &mut Vec<Option<(TileAt, usize)>>, tiles: &[TileAt], clusters: &[Cluster])
-    ensures { slots.new.items ≡ noted slots.old.items (sides cluster_slots tiles.now 0 clusters.now) }
+    ensures { slots.new.items
+        ≡ noted slots.old.items (sides cluster_slots tiles.now 0 clusters.now) }
 {
     for (k, cluster) in clusters.iter().enumerate() {
         note_cluster(slots, cluster, tile_at(tiles, k));

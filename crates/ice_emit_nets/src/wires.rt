@@ -1,7 +1,7 @@
 //! The wires that roots drive.
 ghost use Rattle.std.specs.Prelude.{◌≡◌, map, length, option_map, IfOk};
 ghost use Rattle.ice_chip.specs.Lookups.{wire_named};
-ghost use Rattle.ice_chip.specs.Names.{output_name};
+ghost use Rattle.ice_chip.specs.WireNames.{output_name};
 ghost use Rattle.ice_cells.specs.Tables.{table};
 ghost use Rattle.ice_pads.specs.Globals.{global_wire};
 ghost use Rattle.ice_place_defs.specs.Plan.{slot_of, plan_in};
@@ -37,7 +37,8 @@ fn pad_wire(chip: &Chip, pad: Pad) -> Option<WireNo>
 
 // The inputs of pads.
 fn pad_wires(alloc: Global, chip: &Chip, ports: &[Pad]) -> Result<Vec<Option<WireNo>>, NoMemory>
-    ensures { IfOk result (λ wires. wires.items ≡ map (λ pad. option_map wire_no (pad_wire chip.now pad)) ports.now) }
+    ensures { IfOk result (λ wires.
+        wires.items ≡ map (λ pad. option_map wire_no (pad_wire chip.now pad)) ports.now) }
 {
     let mut wires = Vec::new(alloc);
     for pad in ports {
@@ -80,8 +81,8 @@ fn slot_wires(
 
 // The outputs of the cells of a placed design.
 fn cell_wires(alloc: Global, placed: &Placed<'_>) -> Result<Vec<Option<WireNo>>, NoMemory>
-    ensures { IfOk result (λ wires. wires.items
-        ≡ map (slot_no placed.now.chip.now) (table (slot_of (plan_in placed.now)) (length placed.now.design.now.cells))) }
+    ensures { IfOk result (λ wires. wires.items ≡ map (slot_no placed.now.chip.now)
+        (table (slot_of (plan_in placed.now)) (length placed.now.design.now.cells))) }
 {
     let slots = slots_of(alloc, placed)?;
     slot_wires(alloc, placed.chip, slots.as_slice())
@@ -89,7 +90,8 @@ fn cell_wires(alloc: Global, placed: &Placed<'_>) -> Result<Vec<Option<WireNo>>,
 
 // The globals of global buffers.
 fn global_wires(alloc: Global, chip: &Chip, globals: &[u8]) -> Result<Vec<Option<WireNo>>, NoMemory>
-    ensures { IfOk result (λ wires. wires.items ≡ map (λ n. option_map wire_no (global_wire chip.now n)) globals.now) }
+    ensures { IfOk result (λ wires.
+        wires.items ≡ map (λ n. option_map wire_no (global_wire chip.now n)) globals.now) }
 {
     let mut wires = Vec::new(alloc);
     for number in globals {
@@ -103,7 +105,8 @@ fn global_wires(alloc: Global, chip: &Chip, globals: &[u8]) -> Result<Vec<Option
 /// # Errors
 /// Want of memory alone.
 pub fn wires_of(alloc: Global, placed: &Placed<'_>) -> Result<DrivenWires, NoMemory>
-    ensures { IfOk result (λ wires. wires_in wires ≡ root_wires placed.now.chip.now (plan_in placed.now)) }
+    ensures { IfOk result (λ wires.
+        wires_in wires ≡ root_wires placed.now.chip.now (plan_in placed.now)) }
 {
     let pads = pad_wires(alloc, placed.chip, placed.ports)?;
     let cells = cell_wires(alloc, placed)?;

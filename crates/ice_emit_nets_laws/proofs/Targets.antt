@@ -9,7 +9,8 @@ use Rattle.ice_base_values.specs.Order.{Has}
 use Rattle.ice_base_values.proofs.Members.{Has_none, map_Has}
 use Rattle.ice_chip.specs.Database.{Parts, PackageRows}
 use Rattle.ice_chip.specs.Lookups.{wire_named, placed_at}
-use Rattle.ice_chip.specs.Names.{input_name, output_name, clock_name, clock_enable_name, set_reset_name, fabout_name, pad_output_name, output_enable_name}
+use Rattle.ice_chip.specs.Names.{input_name, pad_output_name, output_enable_name}
+use Rattle.ice_chip.specs.WireNames.{output_name, clock_name, clock_enable_name, set_reset_name, fabout_name}
 use Rattle.ice_decode.proofs.Members.{Has_append_cases}
 use Rattle.ice_cells.specs.declared.cell.Control.{Control}
 use Rattle.ice_cells.specs.declared.cell.LogicCell.{LogicCell}

@@ -6,11 +6,11 @@ use Rattle.std.specs.List.{list_any}
 use Rattle.std.proofs.lemmas.Bool.{or_cases, and_parts, eqb-true, eq-eqb, cases_Bool}
 use Rattle.std.proofs.lemmas.Option.{same_Some}
 use Rattle.ice_base.specs.declared.number.TileAt.{TileAt}
-use Rattle.ice_base.specs.declared.number.BitAt.{BitAt}
+use Rattle.ice_base.specs.declared.bit.BitAt.{BitAt}
 use Rattle.ice_base_values.specs.Order.{At, Has}
 use Rattle.ice_chip.specs.Database.{Parts, SwitchGroup, SwitchRow}
 use Rattle.ice_chip.specs.IsRead.{AreNumbered}
-use Rattle.ice_chip.specs.Lookups.{rows_of}
+use Rattle.ice_chip.specs.Listings.{rows_of}
 use Rattle.ice_chip_laws.specs.Groups.{HasRows}
 use Rattle.ice_bits.specs.Configuration.{Bits}
 use Rattle.ice_bits.specs.Settings.{row_on}

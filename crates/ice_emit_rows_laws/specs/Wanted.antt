@@ -1,10 +1,10 @@
 -- Rows that are wanted, and what they set.
 use Rattle.std.specs.Prelude.{◌≡◌, ℕ, ◌+◌, ◌||◌, true, false, Option, None, Some, List, slice_get}
 use Rattle.std.specs.List.{list_any}
-use Rattle.ice_base.specs.declared.number.BitAt.{BitAt}
+use Rattle.ice_base.specs.declared.bit.BitAt.{BitAt}
 use Rattle.ice_base_values.specs.Order.{At, Has}
 use Rattle.ice_chip.specs.Database.{Parts, SwitchGroup, SwitchRow}
-use Rattle.ice_chip.specs.Lookups.{rows_of}
+use Rattle.ice_chip.specs.Listings.{rows_of}
 use Rattle.ice_bits.specs.Configuration.{Bits}
 use Rattle.ice_decode.specs.declared.driver.Switch.{Switch}
 use Rattle.ice_decode.specs.declared.driver.Driver.TheVariants.{Nothing, By}

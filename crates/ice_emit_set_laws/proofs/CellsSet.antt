@@ -6,14 +6,15 @@ use Rattle.std.specs.Option.{option_map_or, option_and_then}
 use Rattle.std.proofs.lemmas.Bool.{eqb-true, ltb-true}
 use Rattle.std.proofs.lemmas.Option.{same_Some}
 use Rattle.ice_base.specs.declared.number.TileAt.{TileAt}
-use Rattle.ice_base.specs.declared.number.BitAt.{BitAt}
+use Rattle.ice_base.specs.declared.bit.BitAt.{BitAt}
 use Rattle.ice_base_values.specs.Order.{At, Has}
 use Rattle.ice_base_values.proofs.Members.{At_within, any_Has, all_Has}
 use Rattle.ice_base_values.proofs.Places.{At_same}
 use Rattle.ice_net.specs.Meaning.{number_of}
 use Rattle.ice_lut.specs.Tables.{table_places}
 use Rattle.ice_lut.proofs.TableLaws.{number_bound}
-use Rattle.ice_chip.specs.Names.{cell_function, falling_clock_function, carry_set_function}
+use Rattle.ice_chip.specs.Names.{cell_function, falling_clock_function}
+use Rattle.ice_chip.specs.FunctionNames.{carry_set_function}
 use Rattle.ice_chip.specs.Lookups.{kind_at, function_of}
 use Rattle.ice_chip.specs.declared.function_names.TileFunction.TheVariants.{Cell, FallingClock, CarrySet}
 use Rattle.ice_chip.specs.declared.rows.TileKind.{TileKind}

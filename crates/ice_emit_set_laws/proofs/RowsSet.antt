@@ -6,7 +6,7 @@ use Rattle.std.specs.Option.{option_map_or, option_and_then}
 use Rattle.std.proofs.lemmas.Bool.{and_parts, and_from, or_cases, or_right, false_from_ne_true}
 use Rattle.std.proofs.lemmas.Option.{same_Some}
 use Rattle.ice_base.specs.declared.number.TileAt.{TileAt}
-use Rattle.ice_base.specs.declared.number.BitAt.{BitAt}
+use Rattle.ice_base.specs.declared.bit.BitAt.{BitAt}
 use Rattle.ice_base.specs.Places.{same_place}
 use Rattle.ice_base.proofs.Booleans.{not_true}
 use Rattle.ice_base.proofs.Keys.{place_self}
@@ -23,7 +23,8 @@ use Rattle.ice_chip.specs.declared.rows.TileKind.{TileKind}
 use Rattle.ice_bits.specs.Configuration.{Bits}
 use Rattle.ice_bits.specs.Settings.{set_at}
 use Rattle.ice_decode.specs.declared.driver.Switch.{Switch}
-use Rattle.ice_decode.specs.Faults.{or_else, counts_in, is_set_in, first_foreign, foreign_function}
+use Rattle.ice_decode.specs.Faults.{counts_in, is_set_in}
+use Rattle.ice_decode.specs.FirstFaults.{or_else, first_foreign, foreign_function}
 use Rattle.ice_decode.specs.Meaning.{global_at, lets_through, passes_global, passes}
 use Rattle.ice_bits_rows.specs.Bundles.{bundle, has_bit, is_of_other, is_of_function, is_shared, shares_bit, is_private}
 use Rattle.ice_bits_rows.specs.Sound.{is_alone}

@@ -6,12 +6,13 @@ use Rattle.std.specs.Option.{option_map_or, option_and_then}
 use Rattle.std.proofs.lemmas.Bool.{and_parts, or_cases, or_right}
 use Rattle.std.proofs.lemmas.Option.{same_Some}
 use Rattle.ice_base.specs.declared.number.TileAt.{TileAt}
-use Rattle.ice_base.specs.declared.number.BitAt.{BitAt}
+use Rattle.ice_base.specs.declared.bit.BitAt.{BitAt}
 use Rattle.ice_base_values.specs.Order.{At, Has}
 use Rattle.ice_chip.specs.Database.{Parts, FunctionRow, SwitchGroup, SwitchRow, same_tile}
 use Rattle.ice_chip.specs.Functions.{is_read, is_foreign, same_kind}
 use Rattle.ice_chip.specs.IsRead.{IsChip}
-use Rattle.ice_chip.specs.Lookups.{kind_at, function_of, is_function, rows_of}
+use Rattle.ice_chip.specs.Lookups.{kind_at, function_of, is_function}
+use Rattle.ice_chip.specs.Listings.{rows_of}
 use Rattle.ice_chip.specs.Within.{IsKept}
 use Rattle.ice_chip.specs.declared.rows.TileKind.{TileKind}
 use Rattle.ice_chip.specs.declared.rows.TileKind.TheVariants.{Io, Logic, RamBottom, RamTop}

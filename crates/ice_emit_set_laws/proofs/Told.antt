@@ -12,8 +12,8 @@ use Rattle.ice_base.proofs.Booleans.{not_true}
 use Rattle.ice_base_values.specs.Order.{At, Has}
 use Rattle.ice_base_values.proofs.Members.{At_within, Has_none, Has_all, Has_any, any_Has, map_Has, filter_Has}
 use Rattle.ice_chip.specs.Database.{Parts, PackageRows, same_tile, same_pad}
-use Rattle.ice_chip.specs.FunctionNames.{function_name, tile_function, IsTileFunction, FunctionNamesAreRead}
-use Rattle.ice_chip.specs.Names.{pin_type_function, input_enable_function, falling_clock_function, carry_set_function, pull_up_function, column_buffer_function, is_global_name}
+use Rattle.ice_chip.specs.FunctionNames.{function_name, tile_function, IsTileFunction, FunctionNamesAreRead, carry_set_function, pull_up_function}
+use Rattle.ice_chip.specs.Names.{pin_type_function, input_enable_function, falling_clock_function, column_buffer_function, is_global_name}
 use Rattle.ice_chip.specs.Indices.{put_first, with_first, firsts, enables_of}
 use Rattle.ice_chip.specs.IsRead.{IsChip}
 use Rattle.ice_chip.specs.Lookups.{kind_at, ieren_of, colbuf_of, names_of, enable_counts}

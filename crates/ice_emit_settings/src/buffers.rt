@@ -36,7 +36,8 @@ fn push_global(
     tile: TileAt,
     global: Option<u8>,
 ) -> Result<(), NoMemory>
-    ensures { OnOk result (views made.new.items ≡ views made.old.items ++ global_settings chip.now tile global) }
+    ensures { OnOk result
+        (views made.new.items ≡ views made.old.items ++ global_settings chip.now tile global) }
 {
     match global {
         None => Ok(()),
@@ -53,7 +54,8 @@ fn push_buffer(
     row: RowNo,
 ) -> Result<(), NoMemory>
     requires { known.now ≡ global_wires chip.now }
-    ensures { OnOk result (views made.new.items ≡ views made.old.items ++ row_buffers chip.now row) }
+    ensures { OnOk result
+        (views made.new.items ≡ views made.old.items ++ row_buffers chip.now row) }
 {
     if row.0 >= chip.rows() {
         return Ok(());
@@ -79,8 +81,8 @@ fn push_rows(
     rows: &[RowNo],
 ) -> Result<(), NoMemory>
     requires { known.now ≡ global_wires chip.now }
-    ensures { OnOk result (views made.new.items
-        ≡ views made.old.items ++ flat_map (buffer_settings chip.now) (switches chip.now rows.now)) }
+    ensures { OnOk result (views made.new.items ≡ views made.old.items
+        ++ flat_map (buffer_settings chip.now) (switches chip.now rows.now)) }
 {
     for k in 0..rows.len() {
         push_buffer(made, chip, known, rows[k])?;
@@ -98,8 +100,8 @@ pub fn push_buffers(
     chip: &Chip,
     rows: &[RowNo],
 ) -> Result<(), NoMemory>
-    ensures { OnOk result (views made.new.items
-        ≡ views made.old.items ++ flat_map (buffer_settings chip.now) (switches chip.now rows.now)) }
+    ensures { OnOk result (views made.new.items ≡ views made.old.items
+        ++ flat_map (buffer_settings chip.now) (switches chip.now rows.now)) }
 {
     let known = global_wires(alloc, chip)?;
     push_rows(made, chip, &known, rows)

@@ -127,7 +127,9 @@ pub fn push_cell(
     logic: &LogicCell,
 ) -> Result<(), NoMemory>
     ensures { OnOk result (views made.new.items
-        ≡ views made.old.items ++ (table_settings tile (cell_function cell) table ++ setting_if logic.now.carry tile (cell_function cell) 8 ++ flop_settings tile (cell_function cell) logic.now.flop)) }
+        ≡ views made.old.items ++ (table_settings tile (cell_function cell) table
+        ++ setting_if logic.now.carry tile (cell_function cell) 8
+        ++ flop_settings tile (cell_function cell) logic.now.flop)) }
 {
     push_table(made, tile, cell, table)?;
     push_if(made, logic.carry, tile, TileFunction::Cell(cell), CARRY)?;

@@ -35,7 +35,8 @@ fn add(pads: &mut IndexSet<Pad>, pad: Pad) -> Result<(), NoMemory>
 // Adds the pad of a port, if something reads it.
 #[tactic(auto, using(crate::proofs::Enabling::read_added, crate::proofs::Enabling::none_added))]
 fn add_read(pads: &mut IndexSet<Pad>, port: DesignPad, pad: Pad) -> Result<(), NoMemory>
-    ensures { OnOk result (pads.new.keys ≡ insert_all same_pad pads.old.keys (read_pads_at port pad)) }
+    ensures { OnOk result
+        (pads.new.keys ≡ insert_all same_pad pads.old.keys (read_pads_at port pad)) }
 {
     if port.reads {
         add(pads, pad)?;
@@ -67,7 +68,8 @@ fn add_all_read(
     pads: &[Pad],
     ports: &[DesignPad],
 ) -> Result<(), NoMemory>
-    ensures { OnOk result (found.new.keys ≡ insert_all same_pad found.old.keys (read_pads pads.now ports.now)) }
+    ensures { OnOk result
+        (found.new.keys ≡ insert_all same_pad found.old.keys (read_pads pads.now ports.now)) }
 {
     for (k, port) in ports.iter().enumerate() {
         add_read_at(found, *port, pad_at(pads, k))?;
@@ -109,7 +111,8 @@ fn add_all_needed(
 
 // Adds that an input is disabled, where no pad that is read is enabled there.
 fn push_enable(made: &mut Vec<Setting>, needed: &IndexSet<Pad>, enable: Pad) -> Result<(), NoMemory>
-    ensures { OnOk result (views made.new.items ≡ views made.old.items ++ disabled_unless needed.now.keys enable) }
+    ensures { OnOk result
+        (views made.new.items ≡ views made.old.items ++ disabled_unless needed.now.keys enable) }
 {
     push_if(
         made,
@@ -152,7 +155,8 @@ fn needed_of(
 
 // The pads of ports that are read.
 fn read_of(alloc: Global, pads: &[Pad], ports: &[DesignPad]) -> Result<IndexSet<Pad>, NoMemory>
-    ensures { IfOk result (λ found. found.keys ≡ insert_all same_pad [] (read_pads pads.now ports.now)) }
+    ensures { IfOk result (λ found.
+        found.keys ≡ insert_all same_pad [] (read_pads pads.now ports.now)) }
 {
     let mut found = IndexSet::new(alloc);
     let done = add_all_read(&mut found, pads, ports);
@@ -170,8 +174,9 @@ pub fn push_enables(
     pads: &[Pad],
     ports: &[DesignPad],
 ) -> Result<(), NoMemory>
-    ensures { OnOk result (views made.new.items
-        ≡ views made.old.items ++ flat_map (enable_settings (enables_of chip.now) (read_pads pads.now ports.now)) (enables_of chip.now)) }
+    ensures { OnOk result (views made.new.items ≡ views made.old.items
+        ++ flat_map (enable_settings (enables_of chip.now) (read_pads pads.now ports.now))
+        (enables_of chip.now)) }
 {
     let enables = chip.enables();
     let read = read_of(alloc, pads, ports)?;

@@ -25,7 +25,8 @@ fn digit(number: u8, place: u8) -> bool
 // Adds a digit of a pin type, where it is 1.
 fn push_digit(made: &mut Vec<Setting>, pad: Pad, pin_type: u8, place: u8) -> Result<(), NoMemory>
     requires { place < 6 }
-    ensures { OnOk result (views made.new.items ≡ views made.old.items ++ digit_settings pad pin_type place) }
+    ensures { OnOk result
+        (views made.new.items ≡ views made.old.items ++ digit_settings pad pin_type place) }
 {
     push_if(
         made,
@@ -39,7 +40,8 @@ fn push_digit(made: &mut Vec<Setting>, pad: Pad, pin_type: u8, place: u8) -> Res
 
 // Adds the digits of a pin type that are 1.
 fn push_type(made: &mut Vec<Setting>, pad: Pad, pin_type: u8) -> Result<(), NoMemory>
-    ensures { OnOk result (views made.new.items ≡ views made.old.items ++ type_settings pad pin_type) }
+    ensures { OnOk result
+        (views made.new.items ≡ views made.old.items ++ type_settings pad pin_type) }
 {
     for place in 0..6u8 {
         push_digit(made, pad, pin_type, place)?;
@@ -49,7 +51,8 @@ fn push_type(made: &mut Vec<Setting>, pad: Pad, pin_type: u8) -> Result<(), NoMe
 
 // Adds that no pull-up is on at a pad that has one.
 fn push_off(made: &mut Vec<Setting>, place: Option<Pad>) -> Result<(), NoMemory>
-    ensures { OnOk result (views made.new.items ≡ views made.old.items ++ option_map_or off_setting place []) }
+    ensures { OnOk result
+        (views made.new.items ≡ views made.old.items ++ option_map_or off_setting place []) }
 {
     match place {
         None => Ok(()),
@@ -64,7 +67,8 @@ fn push_pull_up(
     pad: Pad,
     pullup: bool,
 ) -> Result<(), NoMemory>
-    ensures { OnOk result (views made.new.items ≡ views made.old.items ++ pull_up_settings chip.now pad pullup) }
+    ensures { OnOk result
+        (views made.new.items ≡ views made.old.items ++ pull_up_settings chip.now pad pullup) }
 {
     if pullup {
         return Ok(());
@@ -80,7 +84,8 @@ fn push_port(
     port: DesignPad,
     place: (Pad, bool),
 ) -> Result<(), NoMemory>
-    ensures { OnOk result (views made.new.items ≡ views made.old.items ++ port_gives chip.now port place) }
+    ensures { OnOk result
+        (views made.new.items ≡ views made.old.items ++ port_gives chip.now port place) }
 {
     let (pad, pullup) = place;
     push_type(made, pad, port.pin_type)?;

@@ -2,7 +2,7 @@
 ghost use Rattle.std.specs.Prelude.{◌≡◌, ◌<◌, ◌≤◌, ◌+◌, ◌++◌, [], ◌∷◌, List, length, IfOk, OnOk, if◌then◌else◌};
 ghost use Rattle.std.specs.List.{Contains};
 ghost use Rattle.ice_chip.specs.IsRead.{HasWiresBelow};
-ghost use Rattle.ice_chip.specs.Database.{most_rows};
+ghost use Rattle.ice_chip.specs.Limits.{most_rows};
 ghost use Rattle.ice_chip.specs.Views.{row_view, group_view};
 ghost use Rattle.ice_bits_rows.specs.Uses.{AreUses};
 ghost use Rattle.ice_graph.specs.Network.{ArePlaces};
@@ -22,8 +22,10 @@ fn add_row(
     edges: &mut Vec<Edge>,
     places: &mut Vec<TileAt>,
 ) -> Result<(), NoMemory>
-    ensures edges { OnOk result (edges.new.items ≡ (if taken then edges.old.items ++ edge ∷ [] else edges.old.items)) }
-    ensures places { OnOk result (places.new.items ≡ (if taken then places.old.items ++ tile ∷ [] else places.old.items)) }
+    ensures edges { OnOk result
+        (edges.new.items ≡ (if taken then edges.old.items ++ edge ∷ [] else edges.old.items)) }
+    ensures places { OnOk result
+        (places.new.items ≡ (if taken then places.old.items ++ tile ∷ [] else places.old.items)) }
 {
     if taken {
         edges.push(edge)?;
@@ -44,8 +46,10 @@ fn add_group(
     requires wires { HasWiresBelow index.now.chip.now.wires (group_view group.now) }
     requires few { group.now.first.0 + length group.now.rows.items ≤ most_rows }
     requires member { Contains index.now.chip.now.groups (group_view group.now) }
-    ensures edges { OnOk result (edges.new.items ≡ edges.old.items ++ edges_of index.now.chip.now (group_view group.now) group.now.first.0 (group_view group.now).rows) }
-    ensures places { OnOk result (places.new.items ≡ places.old.items ++ places_of index.now.chip.now (group_view group.now) group.now.first.0 (group_view group.now).rows) }
+    ensures edges { OnOk result (edges.new.items ≡ edges.old.items ++ edges_of index.now.chip.now
+        (group_view group.now) group.now.first.0 (group_view group.now).rows) }
+    ensures places { OnOk result (places.new.items ≡ places.old.items ++ places_of
+        index.now.chip.now (group_view group.now) group.now.first.0 (group_view group.now).rows) }
 {
     if !is_open(index, uses, group) {
         return Ok(());

@@ -1,10 +1,12 @@
 -- When each answer comes, from what each cause says.
 use Rattle.std.proofs.Common.{◌≡◌, ◌∙◌, ℕ, Option, None, Some, List, true, false, inl, inr, refl, sym, ap, subst, ◌⊎◌, if◌then◌else◌}
 use Rattle.clap.specs.Words.{Text, takes, subcommand_of}
-use Rattle.ice_desk.specs.Desk.{Meaning, SameButSaying}
+use Rattle.ice_desk.specs.Desk.{Meaning}
+use Rattle.ice_desk.specs.Changes.{SameButSaying}
 use Rattle.ice_desk.specs.Said.{SaidRow}
 use Rattle.ice_flow_words.specs.Command.{command}
-use Rattle.ice_flow_words.specs.Requests.{Asked, ForBuild, ForBack, ForPlayNet, ForPlayBits, ForTime, ForSample, is_taken, asked_in, request_of}
+use Rattle.ice_flow_words.specs.Requests.{Asked, ForBuild, ForBack, ForPlayNet, ForPlayBits, ForTime, ForSample}
+use Rattle.ice_flow_words.specs.Reading.{is_taken, asked_in, request_of}
 use Rattle.ice_flow_frame.specs.declared.cause.Cause.{Cause}
 use Rattle.ice_flow_frame.specs.declared.cause.Cause.TheVariants.{Usage, NoMemory}
 use Rattle.ice_flow_frame.specs.declared.cause.Done.{Done}
@@ -17,6 +19,7 @@ use Rattle.ice_flow_frame.specs.Rows.{SaidBy, MadeRow, SilentRow}
 use Rattle.ice_flow_frame.specs.Says.{SilentWhereDone}
 use Rattle.ice_flow_frame.proofs.CommandRows as answers
 use Rattle.ice_flow_frame.proofs.CommandRows.{known, asked}
+use Rattle.ice_flow_chip_frame.proofs.RowLaws.{chip_row, asc_row, package_row, bits_row}
 use Rattle.ice_flow_back_cmd.proofs.BackLaws as back
 use Rattle.ice_flow_back_cmd.specs.Command.{back_files}
 use Rattle.ice_flow_build_cmd.proofs.BuildLaws as built
@@ -61,10 +64,10 @@ bits_answer : (p : BitsPlay) (old new : Meaning) (end : Done) → IsTrueOf (play
 bits_answer p old new end is status long = record {
   good = answers.good_row (play_bits p) old new end.cause end.status is status;
   done = answers.done_row (play_bits p) old new end.cause (bits.lawful p) (bits.alone p) is;
-  bad_chip = bits.chip_row p old new end.cause is;
-  bad_asc = bits.asc_row p old new end.cause is;
-  no_package = bits.package_row p old new end.cause is;
-  bad_bits = bits.bits_row p old new end.cause is;
+  bad_chip = chip_row (play_bits p) bits.Then p.package_name (bits.on_bits p) old new end.cause is;
+  bad_asc = asc_row (play_bits p) bits.Then p.package_name (bits.on_bits p) old new end.cause is;
+  no_package = package_row (play_bits p) bits.Then p.package_name (bits.on_bits p) old new end.cause is;
+  bad_bits = bits_row (play_bits p) bits.Then p.package_name (bits.on_bits p) old new end.cause is;
   bad_levels = bits.levels_row p old new end.cause is;
   read_fault = answers.read_fault_row (play_bits p) old new end.cause is;
   write_fault = answers.write_fault_row (play_bits p) old new end.cause is;
@@ -75,10 +78,10 @@ time_answer : (t : BitsTime) (old new : Meaning) (end : Done) → IsTrueOf (time
 time_answer t old new end is status long = record {
   good = answers.good_row (time t) old new end.cause end.status is status;
   done = answers.done_row (time t) old new end.cause (timing.lawful t) (timing.alone t) is;
-  bad_chip = timing.chip_row t old new end.cause is;
-  bad_asc = timing.asc_row t old new end.cause is;
-  no_package = timing.package_row t old new end.cause is;
-  bad_bits = timing.bits_row t old new end.cause is;
+  bad_chip = chip_row (time t) timing.Then t.package_name (timing.on_bits t) old new end.cause is;
+  bad_asc = asc_row (time t) timing.Then t.package_name (timing.on_bits t) old new end.cause is;
+  no_package = package_row (time t) timing.Then t.package_name (timing.on_bits t) old new end.cause is;
+  bad_bits = bits_row (time t) timing.Then t.package_name (timing.on_bits t) old new end.cause is;
   bad_delays = timing.delays_row t old new end.cause is;
   read_fault = answers.read_fault_row (time t) old new end.cause is;
   write_fault = answers.write_fault_row (time t) old new end.cause is;

@@ -1,6 +1,7 @@
 -- How what words ask for ended, and how words that ask for nothing did.
 use Rattle.std.specs.Prelude.{◌≡◌, true}
-use Rattle.ice_desk.specs.Desk.{Meaning, SameButSaying}
+use Rattle.ice_desk.specs.Desk.{Meaning}
+use Rattle.ice_desk.specs.Changes.{SameButSaying}
 use Rattle.ice_desk.specs.Said.{SaidRow}
 use Rattle.ice_flow_words.specs.Requests.{Asked, ForSample}
 use Rattle.ice_flow_frame.specs.declared.cause.Cause.{Cause}

@@ -1,8 +1,10 @@
 -- What follows from the answer: when each status comes, exactly, command by command.
 use Rattle.std.specs.Prelude.{◌≡◌, ◌⊎◌, Option, Some, List}
 use Rattle.clap.specs.Words.{Text}
-use Rattle.ice_desk.specs.Desk.{Meaning, SameButSaying}
-use Rattle.ice_flow_words.specs.Requests.{Asked, ForBuild, ForBack, ForPlayNet, ForPlayBits, ForTime, ForSample, request_of}
+use Rattle.ice_desk.specs.Desk.{Meaning}
+use Rattle.ice_desk.specs.Changes.{SameButSaying}
+use Rattle.ice_flow_words.specs.Requests.{Asked, ForBuild, ForBack, ForPlayNet, ForPlayBits, ForTime, ForSample}
+use Rattle.ice_flow_words.specs.Reading.{request_of}
 use Rattle.ice_flow_frame.specs.declared.cause.Cause.{Cause}
 use Rattle.ice_flow_frame.specs.declared.cause.Cause.TheVariants.{NoMemory}
 use Rattle.ice_flow_frame.specs.declared.cause.Done.{Done}

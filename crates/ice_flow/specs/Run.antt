@@ -1,10 +1,12 @@
 -- What the program answers to words: its status and the cause, what it wrote, what it said, and which files it kept.
 use Rattle.std.specs.Prelude.{◌≡◌, ◌⊎◌, ℕ, true, false, Option, None, Some, List}
 use Rattle.clap.specs.Words.{Text, takes}
-use Rattle.ice_desk.specs.Desk.{Meaning, SameButSaying}
+use Rattle.ice_desk.specs.Desk.{Meaning}
+use Rattle.ice_desk.specs.Changes.{SameButSaying}
 use Rattle.ice_desk.specs.Said.{SaidRow}
 use Rattle.ice_flow_words.specs.Command.{command}
-use Rattle.ice_flow_words.specs.Requests.{Asked, Build, ForBuild, request_of}
+use Rattle.ice_flow_words.specs.Requests.{Asked, Build, ForBuild}
+use Rattle.ice_flow_words.specs.Reading.{request_of}
 use Rattle.ice_flow_frame.specs.declared.cause.Cause.{Cause}
 use Rattle.ice_flow_frame.specs.declared.cause.Cause.TheVariants.{Usage, NoMemory}
 use Rattle.ice_flow_frame.specs.declared.cause.Done.{Done}

@@ -1,7 +1,7 @@
 //! The top call: from the words of the program to its status.
 ghost use Rattle.std.specs.Prelude.{Some, map, string_bytes};
-ghost use Rattle.ice_desk.specs.Desk.{SameTest};
-ghost use Rattle.ice_flow_words.specs.Requests.{request_of};
+ghost use Rattle.ice_desk.specs.Changes.{SameTest};
+ghost use Rattle.ice_flow_words.specs.Reading.{request_of};
 ghost use Rattle.ice_flow_words.specs.Views.{request_view, IsInLimits};
 ghost use Rattle.ice_flow.specs.Ends.{IsDoneAs};
 ghost use Rattle.ice_flow.specs.Names.{MayUse};
@@ -29,7 +29,8 @@ fn do_request<D: Desk, G: Gate + Sync, R: Threads + Sync>(
     gate: &G,
 ) -> Done
     requires limits { IsInLimits request.now }
-    requires names { MayUse (D.may_read desk.old) (D.may_write desk.old) (Some (request_view request.now)) }
+    requires names { MayUse (D.may_read desk.old) (D.may_write desk.old)
+        (Some (request_view request.now)) }
     ensures names_read { SameTest (D.may_read desk.old) (D.may_read desk.new) }
     ensures names_written { SameTest (D.may_write desk.old) (D.may_write desk.new) }
     ensures done { IsDoneAs (request_view request.now) (D.seen desk.old) (D.seen desk.new) result }
@@ -64,10 +65,12 @@ pub fn run<D: Desk, G: Gate + Sync, R: Threads + Sync>(
     desk: &mut D,
     gate: &G,
 ) -> Done
-    requires { MayUse (D.may_read desk.old) (D.may_write desk.old) (request_of (map string_bytes words.now)) }
+    requires { MayUse (D.may_read desk.old) (D.may_write desk.old)
+        (request_of (map string_bytes words.now)) }
     ensures names_read { SameTest (D.may_read desk.old) (D.may_read desk.new) }
     ensures names_written { SameTest (D.may_write desk.old) (D.may_write desk.new) }
-    ensures answer { IsAnswer (map string_bytes words.now) (D.seen desk.old) (D.seen desk.new) result }
+    ensures answer { IsAnswer (map string_bytes words.now) (D.seen desk.old)
+        (D.seen desk.new) result }
     ensures rows { HasRows (map string_bytes words.now) (D.seen desk.old) (D.seen desk.new) result }
 {
     match read_request(alloc, words) {

@@ -3,7 +3,7 @@ use Rattle.std.proofs.Common.{◌≡◌, ℕ, suc, ◌+◌, ◌*◌, List, [], �
 use Rattle.std.specs.List.{flat_map, range_with_len}
 use Rattle.std.specs.Prelude.{codes, slice_index_or}
 use Rattle.ice_chip.specs.Database.{Parts, PackageRows}
-use Rattle.ice_chip.specs.Lookups.{first_pin}
+use Rattle.ice_chip.specs.Listings.{first_pin}
 use Rattle.ice_chip.specs.declared.rows.Pad.{Pad}
 use Rattle.ice_decode.specs.Cells.{cells}
 use Rattle.ice_net.specs.declared.port.Way.{Way}

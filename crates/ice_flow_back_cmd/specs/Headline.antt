@@ -1,7 +1,7 @@
 -- The headline: the netlist that is written is the configured chip.
 use Rattle.std.specs.Prelude.{◌≡◌, ℕ, Bool, List, ◌++◌, map, codes}
 use Rattle.ice_chip.specs.Database.{Parts, PackageRows}
-use Rattle.ice_chip.specs.Lookups.{first_pin}
+use Rattle.ice_chip.specs.Listings.{first_pin}
 use Rattle.ice_chip.specs.declared.rows.Pad.{Pad}
 use Rattle.ice_bits.specs.Configuration.{Configuration, bits_of}
 use Rattle.ice_decode.specs.Meaning.{bits_show}

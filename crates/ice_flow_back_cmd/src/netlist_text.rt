@@ -24,7 +24,8 @@ use std::alloc::Global;
 // The text of a netlist. Where the netlist is sound and can be written, the text says one that shows the same.
 fn text_of(alloc: Global, netlist: &Netlist) -> Result<Vec<u8>, NoMemory>
     ensures text { IfOk result (λ text. text.items ≡ blif_text netlist.now) }
-    ensures says { IfOk result (λ text. IsSound netlist.now → IsWritable netlist.now → SaysTheSame (blif_text netlist.now) netlist.now) }
+    ensures says { IfOk result (λ text. IsSound netlist.now → IsWritable netlist.now
+        → SaysTheSame (blif_text netlist.now) netlist.now) }
 {
     written_shows_the_same();
     netlist.is_formed();
@@ -46,8 +47,11 @@ pub(crate) fn back_text(
     requires circuit { IsCircuitOf chip.now circuit.now.configuration circuit.now }
     requires listed { Has chip.now.packages (package_view bonded.now) }
     requires words { HasWords (package_view bonded.now) }
-    ensures text { IfOk result (λ text. text.items ≡ blif_text (back_netlist chip.now (bits_of circuit.now.configuration) circuit.now.configuration.extras (package_view bonded.now))) }
-    ensures says { IfOk result (λ text. SaysBits chip.now circuit.now.configuration (package_view bonded.now) text.items) }
+    ensures text { IfOk result (λ text.
+        text.items ≡ blif_text (back_netlist chip.now (bits_of circuit.now.configuration)
+        circuit.now.configuration.extras (package_view bonded.now))) }
+    ensures says { IfOk result (λ text.
+        SaysBits chip.now circuit.now.configuration (package_view bonded.now) text.items) }
 {
     chip.is_chip();
     let netlist = back(alloc, chip, circuit, bonded)?;

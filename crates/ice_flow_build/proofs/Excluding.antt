@@ -1,6 +1,6 @@
 -- Of one arrangement: routes without a shared wire, a sink that can't be reached, and permitted rounds that all end with an overused wire
 -- leave each other out, whatever graph and nets they are stated of.
-use Rattle.std.proofs.Common.{◌≡◌, ◌∙◌, ℕ, List, [], ◌∷◌, suc, Bool, true, false, Option, None, Some, length, map, slice_get, replicate, MatchBool, if◌then◌else◌, Result, Ok, inl, inr, refl, sym, ap, subst}
+use Rattle.std.proofs.Common.{◌≡◌, ◌∙◌, ℕ, List, [], ◌∷◌, suc, Bool, true, false, None, Some, length, map, slice_get, replicate, MatchBool, if◌then◌else◌, Result, Ok, inl, inr, refl, sym, ap, subst}
 use Rattle.std.proofs.lemmas.Bool.{cases_order}
 use Rattle.ice_base.specs.declared.number.NetNo.{NetNo}
 use Rattle.ice_base.specs.declared.number.TileAt.{TileAt}
@@ -30,6 +30,7 @@ use Rattle.ice_negotiate_defs.proofs.Fitting.{whole_at}
 use Rattle.ice_negotiate_defs.proofs.Repeating.{reached_all}
 use Rattle.ice_negotiate_defs.proofs.Unchanged.{verdict_unchanged}
 use Rattle.ice_negotiate_defs.specs.declared.fault.Routed.{Routed}
+use Rattle.ice_negotiate.specs.Progress.{Opening}
 use Rattle.ice_pads.specs.Assign.{PadsData, assign_of}
 use Rattle.ice_pads.specs.declared.fault.PinFault.{PinFault}
 use Rattle.ice_place.specs.declared.arrangement.Arrangement.{Arrangement}
@@ -41,10 +42,6 @@ use Rattle.ice_flow_build.specs.Laid.{Task, IsLaidOut, arrangement_in, plan_in}
 use Rattle.ice_flow_build.specs.Placements.{IsRoutedSo, IsStuckOn, IsGivenUpOn}
 use Rattle.ice_flow_build.specs.declared.answer.Effort.{Effort}
 use Rattle.ice_flow_build.specs.declared.answer.Layout.{Layout}
-
--- what rounds begin from
-abbrev Opening : Type 0
-Opening = Option (List (Option Tree))
 
 -- ---- the same nets
 -- each net of the others is one of these by its root and its sinks

@@ -6,7 +6,8 @@ use Rattle.ice_net.specs.Meaning as net
 use Rattle.ice_net.specs.declared.driver.Drive.TheVariants.{Off}
 use Rattle.ice_chip.specs.Database.{Parts}
 use Rattle.ice_chip.specs.declared.rows.Pad.{Pad}
-use Rattle.ice_bits.specs.Configuration.{Bits, Configuration, bits_of, IsOf}
+use Rattle.ice_bits.specs.Configuration.{Bits, Configuration, bits_of}
+use Rattle.ice_bits.specs.Grids.{IsOf}
 use Rattle.ice_decode.specs.Pads.{pads}
 use Rattle.ice_decode.specs.Meaning.{bits_show}
 use Rattle.ice_decode.specs.Refusals.{IsFaultless}

@@ -33,9 +33,12 @@ fn build_by<G: Gate + Sync, R: Threads + Sync>(
     gate: &G,
 ) -> Result<Built, BuildFault>
     requires effort { IsPermitted effort }
-    ensures built { IfOk result (IsBuilt (task_of index.now.chip.now name.now pcf.now sound.now) effort) }
-    ensures circuit { IfOk result (λ built. RealisesNetlist sound.now built.layout.pads.ports index.now.chip.now built.bits) }
-    ensures fault { IfErr result (IsFault (task_of index.now.chip.now name.now pcf.now sound.now) effort) }
+    ensures built { IfOk result
+        (IsBuilt (task_of index.now.chip.now name.now pcf.now sound.now) effort) }
+    ensures circuit { IfOk result (λ built.
+        RealisesNetlist sound.now built.layout.pads.ports index.now.chip.now built.bits) }
+    ensures fault { IfErr result
+        (IsFault (task_of index.now.chip.now name.now pcf.now sound.now) effort) }
     ensures complete { IsComplete (task_of index.now.chip.now name.now pcf.now sound.now) result }
 {
     layouts_stand_on_their_chip(index.chip, sound);
@@ -78,7 +81,8 @@ pub fn build<G: Gate + Sync, R: Threads + Sync>(
 ) -> Result<Built, BuildFault>
     requires { IsPermitted effort }
     ensures built { IfOk result (IsBuilt (task_of chip.now name.now pcf.now sound.now) effort) }
-    ensures circuit { IfOk result (λ built. RealisesNetlist sound.now built.layout.pads.ports chip.now built.bits) }
+    ensures circuit { IfOk result (λ built.
+        RealisesNetlist sound.now built.layout.pads.ports chip.now built.bits) }
     ensures fault { IfErr result (IsFault (task_of chip.now name.now pcf.now sound.now) effort) }
     ensures complete { IsComplete (task_of chip.now name.now pcf.now sound.now) result }
 {

@@ -26,7 +26,8 @@ fn check_decoded(alloc: Global, chip: &Chip, bits: &Bits) -> Result<(), BuildFau
 /// # Errors
 /// The decoder's fault; want of memory.
 pub fn check_loops(alloc: Global, chip: &Chip, bits: &Bits) -> Result<(), BuildFault>
-    ensures loopless { OnOk result (IsRingless chip.now ⊎ HasNoLoop chip.now (bits_of bits.now) bits.now.extras) }
+    ensures loopless { OnOk result
+        (IsRingless chip.now ⊎ HasNoLoop chip.now (bits_of bits.now) bits.now.extras) }
     ensures fault { IfErr result (IsBitsFault chip.now bits.now) }
 {
     if feeds_no_global(chip) {

@@ -24,7 +24,9 @@ use ice_sites::clusters_stand_on_sites;
 /// The design of a sound netlist, whatever the ranks of its cells are and wherever on sites of the chip its clusters are, keeps to its form and has no loop; its clusters stand
 /// on those sites, and its ports have pads of the package, with the wires that they need.
 pub fn designs_stand_on_their_chip(chip: &Chip, sound: &Sound)
-    ensures { (name : List ℕ) (constraints : List Constraint) (layout : Layout) → IsOnSites (task_of chip.now name constraints sound.now) layout → StandsOn chip.now name layout }
+    ensures { (name : List ℕ) (constraints : List Constraint) (layout : Layout)
+        → IsOnSites (task_of chip.now name constraints sound.now) layout
+        → StandsOn chip.now name layout }
 {
     chip.is_chip();
     sound.is_sound();
@@ -37,7 +39,9 @@ pub fn designs_stand_on_their_chip(chip: &Chip, sound: &Sound)
 
 /// The same of the placed design of a sound netlist.
 pub fn layouts_stand_on_their_chip(chip: &Chip, sound: &Sound)
-    ensures { (name : List ℕ) (constraints : List Constraint) (layout : Layout) → IsLaidOut (task_of chip.now name constraints sound.now) layout → StandsOn chip.now name layout }
+    ensures { (name : List ℕ) (constraints : List Constraint) (layout : Layout)
+        → IsLaidOut (task_of chip.now name constraints sound.now) layout
+        → StandsOn chip.now name layout }
 {
     designs_stand_on_their_chip(chip, sound);
 }
@@ -45,7 +49,9 @@ pub fn layouts_stand_on_their_chip(chip: &Chip, sound: &Sound)
 /// The placed design of a sound netlist has at most two nets more than the netlist has signals: one of each signal, and those of the two
 /// constants. So that of a netlist of at most 65,534 signals has at most 65,536.
 pub fn layouts_have_few_nets(chip: &Chip, sound: &Sound)
-    ensures { (name : List ℕ) (constraints : List Constraint) (layout : Layout) → IsLaidOut (task_of chip.now name constraints sound.now) layout → net_count chip.now (plan_in layout) ≤ length sound.now.names + 2 }
+    ensures { (name : List ℕ) (constraints : List Constraint) (layout : Layout)
+        → IsLaidOut (task_of chip.now name constraints sound.now) layout
+        → net_count chip.now (plan_in layout) ≤ length sound.now.names + 2 }
 {
     chip.is_chip();
     sound.is_sound();
@@ -57,7 +63,13 @@ pub fn layouts_have_few_nets(chip: &Chip, sound: &Sound)
 /// The bits of the placed and routed design of a sound netlist are a circuit that shows what the netlist shows, where they realise
 /// the design.
 pub fn realised_layouts_show_their_netlist(sound: &Sound)
-    ensures { (parts : Parts) (name : List ℕ) (constraints : List Constraint) (layout : Layout) (routes : List Route) (k : Configuration) → IsLaidOut (task_of parts name constraints sound.now) layout → StandsOn parts name layout → IsWritten parts (plan_in layout) layout.pads.pullups routes k → Realises parts (plan_in layout) (wanted_rows parts (plan_in layout) routes) (bits_of k) k.extras → RealisesNetlist sound.now layout.pads.ports parts k }
+    ensures { (parts : Parts) (name : List ℕ) (constraints : List Constraint) (layout : Layout)
+        (routes : List Route) (k : Configuration)
+        → IsLaidOut (task_of parts name constraints sound.now) layout → StandsOn parts name layout
+        → IsWritten parts (plan_in layout) layout.pads.pullups routes k
+        → Realises parts (plan_in layout) (wanted_rows parts (plan_in layout) routes)
+        (bits_of k) k.extras
+        → RealisesNetlist sound.now layout.pads.ports parts k }
 {
     sound.is_sound();
     designs_show_the_same();

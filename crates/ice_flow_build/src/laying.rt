@@ -46,8 +46,10 @@ fn place(
 ) -> Result<Settled, BuildFault>
     requires clusters { clusters ≡ clusters_of design.now }
     requires clustering { IsClustering design.now clusters }
-    ensures clusters { IfOk result (λ made. made.ordered.clusters ≡ clusters_by made.ordered.ranks design.now) }
-    ensures placed { IfOk result (λ made. IsSettled index.now.chip.now made.ordered.clusters design.now pads.now made.placement) }
+    ensures clusters { IfOk result (λ made.
+        made.ordered.clusters ≡ clusters_by made.ordered.ranks design.now) }
+    ensures placed { IfOk result (λ made.
+        IsSettled index.now.chip.now made.ordered.clusters design.now pads.now made.placement) }
     ensures fault { IfErr result (IsPlaceFault index.now.chip.now design.now) }
 {
     let sites = sites_by(alloc, index)?;
@@ -72,7 +74,8 @@ fn lay(
     ensures design { IfOk result (λ layout. layout.design ≡ design) }
     ensures clusters { IfOk result (λ layout. layout.clusters ≡ clusters_by layout.ranks design) }
     ensures pads { IfOk result (λ layout. layout.pads ≡ pads) }
-    ensures placed { IfOk result (λ layout. IsSettled index.now.chip.now layout.clusters design pads layout.placement) }
+    ensures placed { IfOk result (λ layout.
+        IsSettled index.now.chip.now layout.clusters design pads layout.placement) }
     ensures fault { IfErr result (IsPlaceFault index.now.chip.now design) }
 {
     let Settled { ordered, placement } = place(alloc, index, clusters, &design, &pads, seed)?;
@@ -100,7 +103,8 @@ pub fn lay_out(
     seed: u64,
 ) -> Result<Layout, BuildFault>
     ensures laid { IfOk result (IsLaidOut (task_of index.now.chip.now name.now pcf.now sound.now)) }
-    ensures fault { IfErr result (IsLayFault (task_of index.now.chip.now name.now pcf.now sound.now)) }
+    ensures fault { IfErr result
+        (IsLayFault (task_of index.now.chip.now name.now pcf.now sound.now)) }
 {
     let design = design_of(alloc, sound)?;
     let clusters = cluster(alloc, &design)?;

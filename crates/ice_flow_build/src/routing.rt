@@ -24,7 +24,7 @@ use ice_base::NoMemory;
 use ice_bits_rows::Index;
 use ice_chip::Chip;
 use ice_claim_opening::opening;
-use ice_core::Net;
+use ice_core::{MOST_NETS, MOST_WIRES, Net};
 use ice_desk::Gate;
 use ice_emit::emit_by;
 use ice_emit_nets::nets_of;
@@ -36,14 +36,12 @@ use ice_net::MOST_SIGNALS;
 use std::alloc::Global;
 use std::thread::Threads;
 
-// As many nets can be counted on a wire.
-const MOST_NETS: usize = 65_536;
-
 // All nets of a placed design.
 #[tactic(auto, using(crate::proofs::Counting::nets_counted))]
 fn all_nets_in(alloc: Global, chip: &Chip, layout: &Layout) -> Result<Vec<Net>, NoMemory>
     ensures nets { IfOk result (λ nets. AreNetsOf chip.now (plan_in layout.now) nets.items) }
-    ensures count { IfOk result (λ nets. length nets.items ≡ net_count chip.now (plan_in layout.now)) }
+    ensures count { IfOk result (λ nets.
+        length nets.items ≡ net_count chip.now (plan_in layout.now)) }
 {
     let nets = nets_of(
         alloc,
@@ -62,11 +60,12 @@ fn all_nets_in(alloc: Global, chip: &Chip, layout: &Layout) -> Result<Vec<Net>, 
 /// Want of memory alone; more than 65,536 nets count as such, which no placed design of a netlist of at most 65,534 signals has.
 pub fn nets_in(alloc: Global, chip: &Chip, layout: &Layout) -> Result<Vec<Net>, NoMemory>
     ensures nets { IfOk result (λ nets. AreNetsOf chip.now (plan_in layout.now) nets.items) }
-    ensures count { IfOk result (λ nets. length nets.items ≡ net_count chip.now (plan_in layout.now)) }
-    ensures few { IfOk result (λ nets. length nets.items ≤ 65536) }
+    ensures count { IfOk result (λ nets.
+        length nets.items ≡ net_count chip.now (plan_in layout.now)) }
+    ensures few { IfOk result (λ nets. length nets.items ≤ MOST_NETS) }
 {
     let nets = all_nets_in(alloc, chip, layout)?;
-    if nets.len() > MOST_NETS {
+    if nets.len() > MOST_NETS as usize {
         return Err(NoMemory);
     }
     Ok(nets)
@@ -84,7 +83,7 @@ pub fn nets_by_signals(
 ) -> Result<Vec<Net>, NoMemory>
     requires { net_count chip.now (plan_in layout.now) ≤ signals + 2 }
     ensures nets { IfOk result (λ nets. AreNetsOf chip.now (plan_in layout.now) nets.items) }
-    ensures few { IfOk result (λ nets. length nets.items ≤ 65536) }
+    ensures few { IfOk result (λ nets. length nets.items ≤ MOST_NETS) }
 {
     if signals > MOST_SIGNALS {
         return nets_in(alloc, chip, layout);
@@ -103,11 +102,12 @@ fn open<G: Gate + Sync, R: Threads + Sync>(
     gate: &G,
 ) -> Result<Vec<Kept>, NoMemory>
     requires workers { (1 ≤ effort.workers) × (effort.workers ≤ 8) }
-    requires wires { graph.now.wires ≤ 1048576 }
-    requires few { length nets.now ≤ 65536 }
+    requires wires { graph.now.wires ≤ MOST_WIRES }
+    requires few { length nets.now ≤ MOST_NETS }
     requires nets { AreNets graph.now nets.now }
     ensures opened { IfOk result (λ kept. IsOpeningOf graph.now nets.now effort kept.items) }
-    ensures fits { IfOk result (λ kept. OnTrue effort.opening (Fits graph.now nets.now kept.items)) }
+    ensures fits { IfOk result (λ kept.
+        OnTrue effort.opening (Fits graph.now nets.now kept.items)) }
 {
     if !effort.opening {
         return Ok(Vec::new(alloc));
@@ -128,13 +128,15 @@ fn route_from<G: Gate + Sync, R: Threads + Sync>(
     gate: &G,
 ) -> Result<Routed, RouteFault>
     requires effort { IsPermitted effort }
-    requires wires { graph.now.wires ≤ 1048576 }
-    requires few { length nets.now ≤ 65536 }
+    requires wires { graph.now.wires ≤ MOST_WIRES }
+    requires few { length nets.now ≤ MOST_NETS }
     requires nets { AreNets graph.now nets.now }
     requires fits { OnTrue effort.opening (Fits graph.now nets.now kept.now) }
     ensures leads { OpeningLeads graph.now nets.now (opening_in effort kept.now) }
-    ensures routed { IfOk result (AreRoutedFrom graph.now nets.now (opening_in effort kept.now) effort.rounds) }
-    ensures fault { IfErr result (IsFaultFrom graph.now nets.now (opening_in effort kept.now) effort.rounds) }
+    ensures routed { IfOk result
+        (AreRoutedFrom graph.now nets.now (opening_in effort kept.now) effort.rounds) }
+    ensures fault { IfErr result
+        (IsFaultFrom graph.now nets.now (opening_in effort kept.now) effort.rounds) }
 {
     let Effort {
         seed: _,
@@ -166,13 +168,16 @@ pub fn route<G: Gate + Sync, R: Threads + Sync>(
 ) -> Result<Routed, RouteFault>
     requires placed { IsPlacedOn index.now.chip.now (plan_in layout.now) layout.now.pads.pullups }
     requires nets { AreNetsOf index.now.chip.now (plan_in layout.now) nets.now }
-    requires few { length nets.now ≤ 65536 }
+    requires few { length nets.now ≤ MOST_NETS }
     requires effort { IsPermitted effort }
-    ensures routed { IfOk result (IsRouted index.now.chip.now (plan_in layout.now) effort kept.new.items) }
-    ensures trees { IfOk result (λ routed. AreTrees index.now.chip.now (plan_in layout.now) (routes_in routed)) }
-    ensures fault { IfErr result (IsRouteFault index.now.chip.now (plan_in layout.now) effort kept.new.items) }
+    ensures routed { IfOk result
+        (IsRouted index.now.chip.now (plan_in layout.now) effort kept.new.items) }
+    ensures trees { IfOk result (λ routed.
+        AreTrees index.now.chip.now (plan_in layout.now) (routes_in routed)) }
+    ensures fault { IfErr result
+        (IsRouteFault index.now.chip.now (plan_in layout.now) effort kept.new.items) }
 {
-    let _wires = index.chip.wires();
+    index.chip.is_chip();
     placed_nets_are_routable();
     routed_nets_are_trees();
     let graph = aimed_fabric(alloc, index, nets)?;
@@ -204,10 +209,17 @@ fn write(alloc: Global, index: &Index<'_>, made: RoutedLayout) -> Result<Built, 
     ensures layout { IfOk result (λ built. built.layout ≡ made.layout) }
     ensures kept { IfOk result (λ built. built.kept ≡ made.kept) }
     ensures routed { IfOk result (λ built. built.routed ≡ made.routed) }
-    ensures written { IfOk result (λ built. IsWritten index.now.chip.now (plan_in made.layout) made.layout.pads.pullups (routes_in made.routed) built.bits) }
-    ensures loopless { IfOk result (λ built. IsRingless index.now.chip.now → HasNoLoop index.now.chip.now (bits_of built.bits) built.bits.extras) }
-    ensures ring { IfOk result (λ built. FaultsAreRings index.now.chip.now (bits_of built.bits) built.bits.extras) }
-    ensures realised { IfOk result (λ built. HasNoLoop index.now.chip.now (bits_of built.bits) built.bits.extras → Realises index.now.chip.now (plan_in made.layout) (wanted_rows index.now.chip.now (plan_in made.layout) (routes_in built.routed)) (bits_of built.bits) built.bits.extras) }
+    ensures written { IfOk result (λ built. IsWritten index.now.chip.now (plan_in made.layout)
+        made.layout.pads.pullups (routes_in made.routed) built.bits) }
+    ensures loopless { IfOk result (λ built. IsRingless index.now.chip.now
+        → HasNoLoop index.now.chip.now (bits_of built.bits) built.bits.extras) }
+    ensures ring { IfOk result (λ built.
+        FaultsAreRings index.now.chip.now (bits_of built.bits) built.bits.extras) }
+    ensures realised { IfOk result (λ built.
+        HasNoLoop index.now.chip.now (bits_of built.bits) built.bits.extras
+        → Realises index.now.chip.now (plan_in made.layout)
+        (wanted_rows index.now.chip.now (plan_in made.layout) (routes_in built.routed))
+        (bits_of built.bits) built.bits.extras) }
     ensures stop { IfErr result (λ fault. fault ≡ out_of_memory) }
 {
     let RoutedLayout {
@@ -254,7 +266,7 @@ fn route_nets<G: Gate + Sync, R: Threads + Sync>(
 ) -> Result<RoutedLayout, BuildFault>
     requires placed { IsPlacedOn index.now.chip.now (plan_in layout) layout.pads.pullups }
     requires nets { AreNetsOf index.now.chip.now (plan_in layout) nets.items }
-    requires few { length nets.items ≤ 65536 }
+    requires few { length nets.items ≤ MOST_NETS }
     requires effort { IsPermitted effort }
     ensures routed { IfOk result (IsRoutedLayout index.now.chip.now effort layout) }
     ensures fault { IfErr result (IsEndFault index.now.chip.now effort layout) }
@@ -318,12 +330,18 @@ pub fn finish<G: Gate + Sync, R: Threads + Sync>(
 ) -> Result<Built, BuildFault>
     requires placed { IsPlacedOn index.now.chip.now (plan_in layout) layout.pads.pullups }
     requires nets { AreNetsOf index.now.chip.now (plan_in layout) nets.items }
-    requires few { length nets.items ≤ 65536 }
+    requires few { length nets.items ≤ MOST_NETS }
     requires effort { IsPermitted effort }
     ensures finished { IfOk result (IsFinished index.now.chip.now effort layout) }
-    ensures loopless { IfOk result (λ built. IsRingless index.now.chip.now → HasNoLoop index.now.chip.now (bits_of built.bits) built.bits.extras) }
-    ensures ring { IfOk result (λ built. FaultsAreRings index.now.chip.now (bits_of built.bits) built.bits.extras) }
-    ensures realised { IfOk result (λ built. HasNoLoop index.now.chip.now (bits_of built.bits) built.bits.extras → Realises index.now.chip.now (plan_in layout) (wanted_rows index.now.chip.now (plan_in layout) (routes_in built.routed)) (bits_of built.bits) built.bits.extras) }
+    ensures loopless { IfOk result (λ built. IsRingless index.now.chip.now
+        → HasNoLoop index.now.chip.now (bits_of built.bits) built.bits.extras) }
+    ensures ring { IfOk result (λ built.
+        FaultsAreRings index.now.chip.now (bits_of built.bits) built.bits.extras) }
+    ensures realised { IfOk result (λ built.
+        HasNoLoop index.now.chip.now (bits_of built.bits) built.bits.extras
+        → Realises index.now.chip.now (plan_in layout)
+        (wanted_rows index.now.chip.now (plan_in layout) (routes_in built.routed))
+        (bits_of built.bits) built.bits.extras) }
     ensures fault { IfErr result (IsEndFault index.now.chip.now effort layout) }
 {
     let kept = Vec::new(alloc);

@@ -5,7 +5,8 @@ use Rattle.ice_base.specs.declared.number.NetNo.{NetNo}
 use Rattle.ice_place.specs.declared.arrangement.Arrangement.{Arrangement}
 use Rattle.ice_base.specs.declared.number.WireNo.{WireNo}
 use Rattle.ice_asc.specs.Text.{asc_text}
-use Rattle.ice_desk.specs.Desk.{Meaning, SameButReading}
+use Rattle.ice_desk.specs.Desk.{Meaning}
+use Rattle.ice_desk.specs.Changes.{SameButReading}
 use Rattle.ice_net.specs.NetlistData.{NetlistData}
 use Rattle.ice_blif.specs.Grammar.{netlist_of}
 use Rattle.ice_check.proofs.Faulty.{faulty}

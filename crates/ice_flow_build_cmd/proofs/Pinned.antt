@@ -1,5 +1,5 @@
 -- The pads that ports have by the constraints that were read are those by the pins that the text says.
-use Rattle.std.proofs.Common.{◌≡◌, ◌∙◌, ℕ, ◌+◌, ◌==◌, ◌||◌, zero, suc, Bool, true, false, Option, None, Some, List, [], ◌∷◌, length, map, filter_map, option_map, slice_get, position, IfOk, Result, Ok, Err, bytes_eq, if◌then◌else◌, refl, ap, sym, subst, arith}
+use Rattle.std.proofs.Common.{◌≡◌, ◌∙◌, ℕ, ◌+◌, ◌==◌, suc, Bool, true, false, Option, None, Some, List, [], ◌∷◌, length, map, filter_map, option_map, slice_get, position, IfOk, Result, Ok, Err, bytes_eq, if◌then◌else◌, refl, ap, sym, subst, arith}
 use Rattle.std.specs.Prelude.{codes}
 use Rattle.std.specs.Map.{lookup}
 use Rattle.std.specs.Option.{option_and_then}
@@ -7,7 +7,7 @@ use Rattle.std.proofs.lemmas.Option.{slice_get-map, same_Some}
 use Rattle.ice_base.proofs.Keys.{bytes_same}
 use Rattle.ice_base.specs.Text.{lines, numbered, next_number, words, begins_with, uncommented}
 use Rattle.ice_base.specs.declared.number.SignalNo.{SignalNo}
-use Rattle.ice_base_values.specs.Order.{At, Has}
+use Rattle.ice_base_values.specs.Order.{At}
 use Rattle.ice_net.specs.Drivers.{place_of}
 use Rattle.ice_net.specs.NetlistData.{NetlistData}
 use Rattle.ice_net.specs.declared.port.Port.{Port}
@@ -19,7 +19,8 @@ use Rattle.ice_pcf.specs.Grammar.{◌>>=◌, with_pullup, with_lenient, is_lenie
 use Rattle.ice_chip.specs.Database.{PackageRows}
 use Rattle.ice_chip.specs.declared.rows.Pad.{Pad}
 use Rattle.ice_pads.specs.Constraints.{is_of_signal, first_passing, place_of_port, port_named, HavePads}
-use Rattle.ice_flow_build_cmd.specs.Pinned.{last_two, pin_set, pins_set, pair_of, PinTextsSetPins, port_called, HavePinnedPads}
+use Rattle.ice_flow_build_cmd.specs.Pinned.{last_two, pin_set, pins_set, port_called, HavePinnedPads}
+use Rattle.ice_flow_build_cmd.specs.PinTexts.{pair_of, PinTextsSetPins}
 
 -- ---- the text
 bound : {A B : Type 0} (P : B → Type 0) (Q : A → Type 0) (m : Result A PcfFault) (f : A → Result B PcfFault) → IfOk m Q → ((x : A) → Q x → IfOk (f x) P) → IfOk (m >>= f) P

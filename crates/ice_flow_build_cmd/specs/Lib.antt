@@ -2,6 +2,7 @@ pub mod Asked
 pub mod Reports
 pub mod Made
 pub mod Pinned
+pub mod PinTexts
 pub mod Headline
 pub mod ExactlyShown
 pub mod Ending

@@ -1,5 +1,5 @@
 -- Which pads the ports of a netlist have, by what a text of pin constraints says of their names.
-use Rattle.std.specs.Prelude.{◌≡◌, ℕ, Option, None, Some, List, [], ◌∷◌, length, map, filter_map, position, Ok, codes, bytes_eq, if◌then◌else◌}
+use Rattle.std.specs.Prelude.{◌≡◌, ℕ, Option, None, Some, List, [], ◌∷◌, length, map, filter_map, position, codes, bytes_eq, if◌then◌else◌}
 use Rattle.std.specs.Map.{lookup}
 use Rattle.std.specs.Option.{option_and_then}
 use Rattle.ice_base.specs.Text.{lines, words, uncommented}
@@ -7,8 +7,6 @@ use Rattle.ice_base_values.specs.Order.{At, Has, StandOnce}
 use Rattle.ice_net.specs.Drivers.{place_of}
 use Rattle.ice_net.specs.NetlistData.{NetlistData}
 use Rattle.ice_net.specs.declared.port.Port.{Port}
-use Rattle.ice_pcf.specs.Grammar.{pin_text_says}
-use Rattle.ice_pcf.specs.declared.constraint.Constraint.{Constraint}
 use Rattle.ice_chip.specs.Database.{PackageRows}
 use Rattle.ice_chip.specs.declared.rows.Pad.{Pad}
 
@@ -26,15 +24,6 @@ pin_set (word ∷ more) = if bytes_eq word (codes "set_io") then last_two more e
 -- those of all lines
 abbrev pub pins_set : List ℕ → List (List ℕ × List ℕ)
 pins_set text = filter_map pin_set (map (λ line. uncommented (words line)) (lines text))
-
--- the name and the pin of a constraint that is read
-abbrev pub pair_of : Constraint → List ℕ × List ℕ
-pair_of c = (c.name, c.pin)
-
--- a text that the reader takes says the names and pins of the constraints that the reader makes of it
-abbrev pub PinTextsSetPins : Type 0
-PinTextsSetPins = (text : List ℕ) (constraints : List Constraint) → pin_text_says text ≡ Ok constraints
-    → pins_set text ≡ map pair_of constraints
 
 -- ---- what the ports have
 -- the place of the first port of this name

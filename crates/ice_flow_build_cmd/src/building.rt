@@ -12,7 +12,7 @@ ghost use Rattle.ice_flow_build.specs.Laid.{task_of};
 ghost use Rattle.ice_flow_build.specs.Stages.{IsPermitted};
 ghost use Rattle.ice_check.specs.Sound.{IsSound};
 ghost use Rattle.ice_chip_read_pieces.specs.Stands.{StandsFor};
-ghost use Rattle.ice_desk.specs.Desk.{SameButReading, SameTest};
+ghost use Rattle.ice_desk.specs.Changes.{SameButReading, SameTest};
 ghost use Rattle.ice_net.specs.Formed.{IsFormed};
 ghost use Rattle.ice_flow_prepare.specs.Prepared.{CanBePrepared, most_cells};
 ghost use Rattle.ice_pcf.specs.declared.constraint.Constraint.{Constraint};
@@ -71,8 +71,13 @@ struct ReadTask {
 
 // The netlist that the second text behind the chip's says, prepared for the chip.
 fn read_net(alloc: Global, chip: &Chip, texts: &Texts) -> Result<Sound, Cause>
-    ensures task { (name chip_text : List ℕ) (constraints : List Constraint) → IsRead (chip_text ∷ texts.now) chip.now constraints → IfOk result (λ sound. IsTaskRead name (chip_text ∷ texts.now) (task_of chip.now name constraints sound)) }
-    ensures refused { (b : Build) (chip_text : List ℕ) (constraints : List Constraint) → IsRead (chip_text ∷ texts.now) chip.now constraints → IfErr result (IsReadRefusal b (chip_text ∷ texts.now)) }
+    ensures task { (name chip_text : List ℕ) (constraints : List Constraint)
+        → IsRead (chip_text ∷ texts.now) chip.now constraints
+        → IfOk result (λ sound.
+        IsTaskRead name (chip_text ∷ texts.now) (task_of chip.now name constraints sound)) }
+    ensures refused { (b : Build) (chip_text : List ℕ) (constraints : List Constraint)
+        → IsRead (chip_text ∷ texts.now) chip.now constraints
+        → IfErr result (IsReadRefusal b (chip_text ∷ texts.now)) }
 {
     let netlist = match read_blif(alloc, texts.at(2)) {
         Ok(netlist) => netlist,
@@ -92,8 +97,11 @@ fn read_net(alloc: Global, chip: &Chip, texts: &Texts) -> Result<Sound, Cause>
 // The task that a chip text, for which the reader stands, and the texts behind it say: first the chip, then the constraints, and then the
 // netlist.
 fn read_task(alloc: Global, reader: ChipReader, texts: &Texts) -> Result<ReadTask, Cause>
-    ensures task { (name chip_text : List ℕ) → StandsFor reader chip_text → IfOk result (λ task. IsTaskRead name (chip_text ∷ texts.now) (task_of task.chip name task.pcf task.sound)) }
-    ensures refused { (b : Build) (chip_text : List ℕ) → StandsFor reader chip_text → IfErr result (IsReadRefusal b (chip_text ∷ texts.now)) }
+    ensures task { (name chip_text : List ℕ) → StandsFor reader chip_text
+        → IfOk result (λ task.
+        IsTaskRead name (chip_text ∷ texts.now) (task_of task.chip name task.pcf task.sound)) }
+    ensures refused { (b : Build) (chip_text : List ℕ) → StandsFor reader chip_text
+        → IfErr result (IsReadRefusal b (chip_text ∷ texts.now)) }
 {
     let chip = match reader.finish() {
         Ok(chip) => chip,
@@ -125,8 +133,15 @@ fn build_task<G: Gate + Sync, R: Threads + Sync>(
     task: &ReadTask,
 ) -> Result<Made, Refused>
     requires { IsPermitted (effort_of (build_view request.now)) }
-    ensures made { (texts : List (List ℕ)) → IsTaskRead request.now.package_name.now texts (task_of task.now.chip request.now.package_name.now task.now.pcf task.now.sound) → IfOk result (λ made. IsMadeByBuild (build_view request.now) texts made.texts made.arrangement (told_in made)) }
-    ensures refused { (texts : List (List ℕ)) → IsTaskRead request.now.package_name.now texts (task_of task.now.chip request.now.package_name.now task.now.pcf task.now.sound) → IfErr result (IsRefusedWith (build_view request.now) texts) }
+    ensures made { (texts : List (List ℕ))
+        → IsTaskRead request.now.package_name.now texts
+        (task_of task.now.chip request.now.package_name.now task.now.pcf task.now.sound)
+        → IfOk result (λ made.
+        IsMadeByBuild (build_view request.now) texts made.texts made.arrangement (told_in made)) }
+    ensures refused { (texts : List (List ℕ))
+        → IsTaskRead request.now.package_name.now texts
+        (task_of task.now.chip request.now.package_name.now task.now.pcf task.now.sound)
+        → IfErr result (IsRefusedWith (build_view request.now) texts) }
 {
     prepared_pins_stay();
     prepared_are_given_alike();
@@ -156,8 +171,11 @@ fn build_texts<G: Gate + Sync, R: Threads + Sync>(
     texts: &Texts,
 ) -> Result<Made, Refused>
     requires { IsPermitted (effort_of (build_view request.now)) }
-    ensures made { (chip_text : List ℕ) → StandsFor reader chip_text → IfOk result (λ made. IsMadeByBuild (build_view request.now) (chip_text ∷ texts.now) made.texts made.arrangement (told_in made)) }
-    ensures refused { (chip_text : List ℕ) → StandsFor reader chip_text → IfErr result (IsRefusedWith (build_view request.now) (chip_text ∷ texts.now)) }
+    ensures made { (chip_text : List ℕ) → StandsFor reader chip_text
+        → IfOk result (λ made. IsMadeByBuild (build_view request.now) (chip_text ∷ texts.now)
+        made.texts made.arrangement (told_in made)) }
+    ensures refused { (chip_text : List ℕ) → StandsFor reader chip_text
+        → IfErr result (IsRefusedWith (build_view request.now) (chip_text ∷ texts.now)) }
 {
     match read_task(alloc, reader, texts) {
         Ok(task) => {
@@ -184,7 +202,8 @@ fn make<D: Desk, G: Gate + Sync, R: Threads + Sync>(
     ensures same { SameButReading (D.seen desk.old) (D.seen desk.new) }
     ensures names_read { SameTest (D.may_read desk.old) (D.may_read desk.new) }
     ensures names_written { SameTest (D.may_write desk.old) (D.may_write desk.new) }
-    ensures made { IsMadeOf (build_files (build_view request.now)) (D.seen desk.old) (D.seen desk.new) (unreported result) }
+    ensures made { IsMadeOf (build_files (build_view request.now)) (D.seen desk.old)
+        (D.seen desk.new) (unreported result) }
     ensures reported { IsReported (build_files (build_view request.now)) (D.seen desk.old) result }
     ensures given { IsToldLong (D.seen desk.new) (unreported result) }
 {
@@ -210,7 +229,9 @@ fn give<D: Desk>(desk: &mut D, made: Result<Made, Refused>, request: &BuildReque
     ensures names_read { SameTest (D.may_read desk.old) (D.may_read desk.new) }
     ensures names_written { SameTest (D.may_write desk.old) (D.may_write desk.new) }
     ensures status { result.status ≡ status_of result.cause }
-    ensures end { IsEndInFiles (outputs_of (build_view request.now)) (parting_of (build_view request.now)) made (D.seen desk.old) (D.seen desk.new) result.cause }
+    ensures end { IsEndInFiles (outputs_of (build_view request.now))
+        (parting_of (build_view request.now)) made (D.seen desk.old)
+        (D.seen desk.new) result.cause }
 {
     let (files, count) = outputs(request);
     end_in_files(desk, made, &files[..count], parting(request))
@@ -239,14 +260,24 @@ pub fn build_files<D: Desk, G: Gate + Sync, R: Threads + Sync>(
     ensures names_read { SameTest (D.may_read desk.old) (D.may_read desk.new) }
     ensures names_written { SameTest (D.may_write desk.old) (D.may_write desk.new) }
     ensures status { result.status ≡ status_of result.cause }
-    ensures cause { IsTrueOf (build_files (build_view request.now)) (D.seen desk.old) (D.seen desk.new) result.cause }
-    ensures headline { HeadlineRow (build_view request.now) (D.seen desk.old) (D.seen desk.new) result.status }
-    ensures rows { IsBuildAnswer (build_view request.now) (D.seen desk.old) (D.seen desk.new) result }
-    ensures said { (D.seen desk.old).tells ≡ true → SaidBy (InFiles (outputs_of (build_view request.now))) (D.seen desk.old) (D.seen desk.new) result.cause }
-    ensures kept { (D.seen desk.old).tells ≡ true → KeptRow (InFiles (outputs_of (build_view request.now))) (parting_of (build_view request.now)) (D.seen desk.old) (D.seen desk.new) result.cause }
-    ensures made { MadeRow (InFiles (outputs_of (build_view request.now))) (parting_of (build_view request.now)) (D.seen desk.old) (D.seen desk.new) result.cause }
-    ensures silent { SilentRow (InFiles (outputs_of (build_view request.now))) (D.seen desk.old) (D.seen desk.new) result.cause }
-    ensures parted { PartingRow (build_files (build_view request.now)) (D.seen desk.old) (D.seen desk.new) result.cause }
+    ensures cause { IsTrueOf (build_files (build_view request.now)) (D.seen desk.old)
+        (D.seen desk.new) result.cause }
+    ensures headline { HeadlineRow (build_view request.now) (D.seen desk.old)
+        (D.seen desk.new) result.status }
+    ensures rows { IsBuildAnswer (build_view request.now) (D.seen desk.old)
+        (D.seen desk.new) result }
+    ensures said { (D.seen desk.old).tells ≡ true
+        → SaidBy (InFiles (outputs_of (build_view request.now))) (D.seen desk.old)
+        (D.seen desk.new) result.cause }
+    ensures kept { (D.seen desk.old).tells ≡ true
+        → KeptRow (InFiles (outputs_of (build_view request.now)))
+        (parting_of (build_view request.now)) (D.seen desk.old) (D.seen desk.new) result.cause }
+    ensures made { MadeRow (InFiles (outputs_of (build_view request.now)))
+        (parting_of (build_view request.now)) (D.seen desk.old) (D.seen desk.new) result.cause }
+    ensures silent { SilentRow (InFiles (outputs_of (build_view request.now))) (D.seen desk.old)
+        (D.seen desk.new) result.cause }
+    ensures parted { PartingRow (build_files (build_view request.now)) (D.seen desk.old)
+        (D.seen desk.new) result.cause }
     ensures given { TellsLong (D.seen desk.new) result.cause }
 {
     let made = make(rt, alloc, desk, gate, request);

@@ -5,7 +5,7 @@ ghost use Rattle.ice_flow_frame.specs.Ends.{text_of};
 ghost use Rattle.ice_flow_frame.specs.Told.{telling, told_in};
 ghost use Rattle.ice_asc.specs.Grammar.{asc_in};
 ghost use Rattle.ice_asc.specs.Text.{asc_text};
-ghost use Rattle.ice_bits.specs.Configuration.{IsOf};
+ghost use Rattle.ice_bits.specs.Grids.{IsOf};
 ghost use Rattle.ice_flow_build.specs.Laid.{arrangement_in};
 ghost use Rattle.ice_chip.specs.Lookups.{package_of};
 ghost use Rattle.ice_report.specs.RouteReport.{route_text};
@@ -35,10 +35,16 @@ pub fn made_of(
     netlist: &Netlist,
     built: Built,
 ) -> Result<Made, Refused>
-    ensures texts { IfOk result (λ made. made.texts ≡ texts_of (build_view request.now) (asc_text chip.now built.bits) (pins_text (package_of chip.now request.now.package_name.now) netlist.now built.layout.pads.ports) (route_text (length built.layout.design.cells) (length built.layout.clusters.list) (length built.routed.trees.items) built.routed.logs.items true)) }
+    ensures texts { IfOk result (λ made.
+        made.texts ≡ texts_of (build_view request.now) (asc_text chip.now built.bits)
+        (pins_text (package_of chip.now request.now.package_name.now)
+        netlist.now built.layout.pads.ports)
+        (route_text (length built.layout.design.cells) (length built.layout.clusters.list)
+        (length built.routed.trees.items) built.routed.logs.items true)) }
     ensures arrangement { IfOk result (λ made. made.arrangement ≡ arrangement_in built.layout) }
     ensures told { IfOk result (λ made. told_in made ≡ telling built.routed.tallies built.kept) }
-    ensures read_back { IfOk result (λ made. IsOf chip.now built.bits → asc_in chip.now (asc_text chip.now built.bits) ≡ Ok built.bits) }
+    ensures read_back { IfOk result (λ made.
+        IsOf chip.now built.bits → asc_in chip.now (asc_text chip.now built.bits) ≡ Ok built.bits) }
     ensures stop { IfErr result (λ refused. refused.cause ≡ out_of_memory) }
     ensures unreported { IfErr result (λ refused. refused.report ≡ None) }
 {
@@ -82,7 +88,8 @@ fn parting_report(
     request: &BuildRequest<'_>,
     fault: &BuildFault,
 ) -> Result<Option<Vec<u8>>, NoMemory>
-    ensures { IfOk result (λ report. text_of report ≡ report_of (build_view request.now) fault.now) }
+    ensures { IfOk result (λ report.
+        text_of report ≡ report_of (build_view request.now) fault.now) }
 {
     match fault {
         BuildFault::GaveUp {

@@ -3,7 +3,7 @@ ghost use Rattle.std.specs.Prelude.{◌≡◌, ◌++◌, true, length, Ok, IfOk,
 ghost use Rattle.ice_flow_frame.specs.Ends.{text_of};
 ghost use Rattle.ice_asc.specs.Grammar.{asc_in};
 ghost use Rattle.ice_asc.specs.Text.{asc_text};
-ghost use Rattle.ice_bits.specs.Configuration.{IsOf};
+ghost use Rattle.ice_bits.specs.Grids.{IsOf};
 ghost use Rattle.ice_chip.specs.Lookups.{package_of};
 ghost use Rattle.ice_report.specs.RouteReport.{route_text};
 ghost use Rattle.ice_flow_build_cmd.specs.Ending.{parting_text};
@@ -26,7 +26,8 @@ use std::alloc::Global;
 // The text of the bits. Where they are of the chip, the text says them.
 fn bits_text(alloc: Global, chip: &Chip, bits: &Bits) -> Result<Vec<u8>, NoMemory>
     ensures text { IfOk result (λ text. text.items ≡ asc_text chip.now bits.now) }
-    ensures read_back { IfOk result (λ text. IsOf chip.now bits.now → asc_in chip.now text.items ≡ Ok bits.now) }
+    ensures read_back { IfOk result (λ text.
+        IsOf chip.now bits.now → asc_in chip.now text.items ≡ Ok bits.now) }
 {
     let mut text = Vec::new(alloc);
     write_asc(bits, chip, &mut text)?;
@@ -41,7 +42,8 @@ fn pins_text(
     netlist: &Netlist,
     pads: &Pads,
 ) -> Result<Vec<u8>, NoMemory>
-    ensures { IfOk result (λ text. text.items ≡ pins_text (package_of chip.now name.now) netlist.now pads.now.ports) }
+    ensures { IfOk result (λ text.
+        text.items ≡ pins_text (package_of chip.now name.now) netlist.now pads.now.ports) }
 {
     let mut text = Vec::new(alloc);
     if let Some(package) = chip.package(name) {
@@ -59,7 +61,8 @@ fn routes_text(
     logs: &[RoundLog],
     routed: bool,
 ) -> Result<Vec<u8>, NoMemory>
-    ensures { IfOk result (λ text. text.items ≡ route_text (length layout.now.design.cells) (length layout.now.clusters.list) nets logs.now routed) }
+    ensures { IfOk result (λ text. text.items ≡ route_text (length layout.now.design.cells)
+        (length layout.now.clusters.list) nets logs.now routed) }
 {
     let cells = to_u32(layout.design.cells().len())?;
     let tiles = to_u32(layout.clusters.list().len())?;
@@ -77,7 +80,8 @@ fn add_pins(
     pads: &Pads,
     texts: &mut Texts,
 ) -> Result<(), NoMemory>
-    ensures { OnOk result (texts.new ≡ texts.old ++ text_asked (build_view request.now).pins (pins_text (package_of chip.now request.now.package_name.now) netlist.now pads.now.ports)) }
+    ensures { OnOk result (texts.new ≡ texts.old ++ text_asked (build_view request.now).pins
+        (pins_text (package_of chip.now request.now.package_name.now) netlist.now pads.now.ports)) }
 {
     if request.pins.is_none() {
         return Ok(());
@@ -94,7 +98,9 @@ fn add_report(
     built: &Built,
     texts: &mut Texts,
 ) -> Result<(), NoMemory>
-    ensures { OnOk result (texts.new ≡ texts.old ++ text_asked (build_view request.now).report (route_text (length built.now.layout.design.cells) (length built.now.layout.clusters.list) (length built.now.routed.trees.items) built.now.routed.logs.items true)) }
+    ensures { OnOk result (texts.new ≡ texts.old ++ text_asked (build_view request.now).report
+        (route_text (length built.now.layout.design.cells) (length built.now.layout.clusters.list)
+        (length built.now.routed.trees.items) built.now.routed.logs.items true)) }
 {
     if request.report.is_none() {
         return Ok(());
@@ -116,8 +122,14 @@ pub fn texts_of(
     netlist: &Netlist,
     built: &Built,
 ) -> Result<Texts, NoMemory>
-    ensures texts { IfOk result (λ texts. texts ≡ texts_of (build_view request.now) (asc_text chip.now built.now.bits) (pins_text (package_of chip.now request.now.package_name.now) netlist.now built.now.layout.pads.ports) (route_text (length built.now.layout.design.cells) (length built.now.layout.clusters.list) (length built.now.routed.trees.items) built.now.routed.logs.items true)) }
-    ensures read_back { IfOk result (λ texts. IsOf chip.now built.now.bits → asc_in chip.now (asc_text chip.now built.now.bits) ≡ Ok built.now.bits) }
+    ensures texts { IfOk result (λ texts.
+        texts ≡ texts_of (build_view request.now) (asc_text chip.now built.now.bits)
+        (pins_text (package_of chip.now request.now.package_name.now) netlist.now
+        built.now.layout.pads.ports)
+        (route_text (length built.now.layout.design.cells) (length built.now.layout.clusters.list)
+        (length built.now.routed.trees.items) built.now.routed.logs.items true)) }
+    ensures read_back { IfOk result (λ texts. IsOf chip.now built.now.bits
+        → asc_in chip.now (asc_text chip.now built.now.bits) ≡ Ok built.now.bits) }
 {
     let bits = bits_text(alloc, chip, &built.bits)?;
     let mut texts = one_text(alloc, bits)?;
@@ -134,7 +146,11 @@ fn add_reports(
     built: &Built,
     texts: &mut Texts,
 ) -> Result<(), NoMemory>
-    ensures { OnOk result (texts.new ≡ texts.old ++ reports_of (build_view request.now) (pins_text (package_of chip.now request.now.package_name.now) netlist.now built.now.layout.pads.ports) (route_text (length built.now.layout.design.cells) (length built.now.layout.clusters.list) (length built.now.routed.trees.items) built.now.routed.logs.items true)) }
+    ensures { OnOk result (texts.new ≡ texts.old ++ reports_of (build_view request.now)
+        (pins_text (package_of chip.now request.now.package_name.now) netlist.now
+        built.now.layout.pads.ports)
+        (route_text (length built.now.layout.design.cells) (length built.now.layout.clusters.list)
+        (length built.now.routed.trees.items) built.now.routed.logs.items true)) }
 {
     add_pins(alloc, chip, request, netlist, &built.layout.pads, texts)?;
     add_report(alloc, request, built, texts)
@@ -151,7 +167,8 @@ pub fn parting_text(
     nets: u32,
     logs: &[RoundLog],
 ) -> Result<Option<Vec<u8>>, NoMemory>
-    ensures { IfOk result (λ report. text_of report ≡ parting_text (build_view request.now) layout.now nets logs.now) }
+    ensures { IfOk result (λ report.
+        text_of report ≡ parting_text (build_view request.now) layout.now nets logs.now) }
 {
     if request.report.is_none() {
         return Ok(None);

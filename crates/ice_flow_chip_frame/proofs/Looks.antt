@@ -21,7 +21,7 @@ use Rattle.ice_flow_frame.specs.Refusals.{IsChipRefusal, IsAscRefusal, IsBitsRef
 use Rattle.ice_flow_frame.specs.Texts.{text_at}
 use Rattle.ice_flow_frame.proofs.Standings.{at_fault, behind, then_stands, behind_some, some_stands}
 use Rattle.ice_flow_frame.proofs.Standings as standings
-use Rattle.ice_flow_chip_frame.specs.Standing.{BitsStand, PackageStands, AscStands, Stands, IsRead, IsPacked, IsConfigured}
+use Rattle.ice_flow_chip_frame.specs.Standing.{BitsStand, PackageStands, AscStands, TextsStand, IsRead, IsPacked, IsConfigured}
 
 -- bits without a fault have none of the faults
 pub none_of : (parts : Parts) (bits : Bits) (extras : List (ℕ × ℕ × ℕ)) (fault : DecodeFault) → IsFaultOf parts bits extras fault → fault ≢ decode_fault.NoMemory → IsFaultless parts bits extras → ⊥
@@ -35,13 +35,13 @@ none_of parts bits extras decode_fault.NoMemory is known without = known refl
 
 module _ (Then : PackageRows → Cause → Type 0) (name : List ℕ) (t : List (List ℕ)) (parts : Parts) where
   -- ---- from how texts stand, down to how what was read of them stands
-  pub asc_stands : (cause : Cause) → chip_says (text_at t 1) ≡ Ok parts → Stands Then name t cause → AscStands Then name (text_at t 2) parts cause
+  pub asc_stands : (cause : Cause) → chip_says (text_at t 1) ≡ Ok parts → TextsStand Then name t cause → AscStands Then name (text_at t 2) parts cause
   asc_stands cause e m = then_stands (chip_says (text_at t 1)) BadChip (AscStands Then name (text_at t 2)) parts cause e m
 
-  pub package_stands : (k : Configuration) (cause : Cause) → IsRead t parts k → Stands Then name t cause → PackageStands Then name parts k cause
+  pub package_stands : (k : Configuration) (cause : Cause) → IsRead t parts k → TextsStand Then name t cause → PackageStands Then name parts k cause
   package_stands k cause read m = then_stands (asc_in parts (text_at t 2)) BadAsc (PackageStands Then name parts) k cause read.are_bits (asc_stands cause read.is_chip m)
 
-  pub bits_stand : (k : Configuration) (bonded : PackageRows) (cause : Cause) → IsPacked name t parts k bonded → Stands Then name t cause → BitsStand Then parts k bonded cause
+  pub bits_stand : (k : Configuration) (bonded : PackageRows) (cause : Cause) → IsPacked name t parts k bonded → TextsStand Then name t cause → BitsStand Then parts k bonded cause
   bits_stand k bonded cause packed m =
       some_stands (package_of parts name) (BadPin pin_fault.NoPackage) (BitsStand Then parts k) bonded cause packed.is_package (package_stands k cause packed.is_read m)
 
@@ -50,27 +50,27 @@ module _ (Then : PackageRows → Cause → Type 0) (name : List ℕ) (t : List (
   no_fault k bonded cause faultless (inr good) = good.1
 
   -- behind bits without a fault it stands as what follows
-  pub then_so : (k : Configuration) (bonded : PackageRows) (cause : Cause) → IsConfigured name t parts k bonded → Stands Then name t cause → Then bonded cause
+  pub then_so : (k : Configuration) (bonded : PackageRows) (cause : Cause) → IsConfigured name t parts k bonded → TextsStand Then name t cause → Then bonded cause
   then_so k bonded cause is m = no_fault k bonded cause is.faultless (bits_stand k bonded cause is.is_packed m)
 
   -- ---- and up again
-  read_so : (k : Configuration) (cause : Cause) → IsRead t parts k → PackageStands Then name parts k cause → Stands Then name t cause
+  read_so : (k : Configuration) (cause : Cause) → IsRead t parts k → PackageStands Then name parts k cause → TextsStand Then name t cause
   read_so k cause read m =
       behind (chip_says (text_at t 1)) BadChip (AscStands Then name (text_at t 2)) parts cause read.is_chip
       (behind (asc_in parts (text_at t 2)) BadAsc (PackageStands Then name parts) k cause read.are_bits m)
 
-  packed_so : (k : Configuration) (bonded : PackageRows) (cause : Cause) → IsPacked name t parts k bonded → BitsStand Then parts k bonded cause → Stands Then name t cause
+  packed_so : (k : Configuration) (bonded : PackageRows) (cause : Cause) → IsPacked name t parts k bonded → BitsStand Then parts k bonded cause → TextsStand Then name t cause
   packed_so k bonded cause packed m =
       read_so k cause packed.is_read (behind_some (package_of parts name) (BadPin pin_fault.NoPackage) (BitsStand Then parts k) bonded cause packed.is_package m)
 
-  pub configured_so : (k : Configuration) (bonded : PackageRows) (cause : Cause) → IsConfigured name t parts k bonded → Then bonded cause → Stands Then name t cause
+  pub configured_so : (k : Configuration) (bonded : PackageRows) (cause : Cause) → IsConfigured name t parts k bonded → Then bonded cause → TextsStand Then name t cause
   configured_so k bonded cause is m = packed_so k bonded cause is.is_packed (inr (is.faultless, m))
 
 -- ---- the refusals
 module _ (Then : PackageRows → Cause → Type 0) (name : List ℕ) (t : List (List ℕ)) where
-  pub chip_refused : (fault : ChipFault) (cause : Cause) → chip_answers.StopsBy fault (chip_says (text_at t 1)) → IsChipRefusal fault cause → IsRefusal (Stands Then name t) cause
+  pub chip_refused : (fault : ChipFault) (cause : Cause) → chip_answers.StopsBy fault (chip_says (text_at t 1)) → IsChipRefusal fault cause → IsRefusal (TextsStand Then name t) cause
   chip_refused fault cause says is =
-      standings.chip_refused (Stands Then name t) fault cause
+      standings.chip_refused (TextsStand Then name t) fault cause
       (λ known. at_fault (chip_says (text_at t 1)) BadChip (AscStands Then name (text_at t 2)) fault (standings.chip_fault_is fault (chip_says (text_at t 1)) says known)) is
 
   asc_fault_is : (fault : AscFault) (said : Result Configuration AscFault) → asc_answers.StopsBy fault said → fault ≢ asc_fault.NoMemory → said ≡ Err fault
@@ -84,16 +84,16 @@ module _ (Then : PackageRows → Cause → Type 0) (name : List ℕ) (t : List (
   asc_fault_is asc_fault.NoMemory said is known = absurd (known refl)
 
   pub asc_refused : (parts : Parts) (fault : AscFault) (cause : Cause) → chip_says (text_at t 1) ≡ Ok parts → asc_answers.StopsBy fault (asc_in parts (text_at t 2)) → IsAscRefusal fault cause
-      → IsRefusal (Stands Then name t) cause
+      → IsRefusal (TextsStand Then name t) cause
   asc_refused parts fault cause chip says is =
-      standings.asc_refused (Stands Then name t) fault cause
+      standings.asc_refused (TextsStand Then name t) fault cause
       (λ known. behind (chip_says (text_at t 1)) BadChip (AscStands Then name (text_at t 2)) parts (BadAsc fault) chip
       (at_fault (asc_in parts (text_at t 2)) BadAsc (PackageStands Then name parts) fault (asc_fault_is fault (asc_in parts (text_at t 2)) says known))) is
 
   pub bits_refused : (parts : Parts) (k : Configuration) (bonded : PackageRows) (fault : DecodeFault) (cause : Cause) → IsRead t parts k → package_of parts name ≡ Some bonded
-      → IsFaultOf parts (bits_of k) k.extras fault → IsBitsRefusal fault cause → IsRefusal (Stands Then name t) cause
+      → IsFaultOf parts (bits_of k) k.extras fault → IsBitsRefusal fault cause → IsRefusal (TextsStand Then name t) cause
   bits_refused parts k bonded fault cause read there bad is =
-      standings.bits_refused (Stands Then name t) fault cause
+      standings.bits_refused (TextsStand Then name t) fault cause
       (λ known. behind (chip_says (text_at t 1)) BadChip (AscStands Then name (text_at t 2)) parts (BadBits fault) read.is_chip
       (behind (asc_in parts (text_at t 2)) BadAsc (PackageStands Then name parts) k (BadBits fault) read.are_bits
       (behind_some (package_of parts name) (BadPin pin_fault.NoPackage) (BitsStand Then parts k) bonded (BadBits fault) there (inl (fault, refl, bad, known))))) is

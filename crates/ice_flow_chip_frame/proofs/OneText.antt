@@ -1,10 +1,8 @@
 -- One text that was made, or want of memory.
-use Rattle.std.proofs.Common.{◌≡◌, ℕ, List, [], ◌∷◌, Result, Ok, Err, IfOk, IfErr, sym, subst}
+use Rattle.std.proofs.Common.{◌≡◌, ℕ, List, [], ◌∷◌, Result, Ok, Err, IfOk, sym, subst}
 use Rattle.ice_flow_frame.specs.declared.cause.Cause.{Cause}
-use Rattle.ice_flow_frame.specs.declared.cause.Cause.TheVariants.{NoMemory}
 use Rattle.ice_flow_frame.specs.declared.giving.Made.{Made}
 use Rattle.ice_flow_frame.specs.Causes.{no_arrangement}
-use Rattle.ice_flow_frame.specs.Commands.{IsRefusal}
 use Rattle.ice_flow_frame.specs.Told.{nothing_told, told_in}
 use Rattle.ice_flow_frame.specs.Texts.{text_at}
 
@@ -13,8 +11,3 @@ pub one_is : (IsSo : List ℕ → Type 0) (text : List ℕ) (result : Result Mad
     → IfOk result (λ made. told_in made ≡ nothing_told) → IfOk result (λ made. IsSo (text_at made.texts 1) × (made.arrangement ≡ no_arrangement) × (told_in made ≡ nothing_told))
 one_is IsSo text (Ok made) so one arrangement told = (subst (λ (texts : List (List ℕ)). IsSo (text_at texts 1)) (sym one) so, arrangement, told)
 one_is IsSo text (Err cause) so one arrangement told = tt
-
--- want of memory refuses texts that stand in any way
-pub none_refused : (Stands : Cause → Type 0) (result : Result Made Cause) → IfErr result (λ cause. cause ≡ NoMemory) → IfErr result (λ cause. IsRefusal Stands cause)
-none_refused Stands (Ok made) is = tt
-none_refused Stands (Err cause) is = subst (IsRefusal Stands) (sym is) tt

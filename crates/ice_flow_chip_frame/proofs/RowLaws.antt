@@ -16,7 +16,7 @@ use Rattle.ice_flow_frame.specs.Texts.{OfTexts, text_at}
 use Rattle.ice_flow_frame.proofs.Standings.{fault_alone, none_alone}
 use Rattle.ice_flow_frame.proofs.TextFacts.{of_weaker}
 use Rattle.ice_flow_frame.proofs.CommandRows.{Lawful, comes}
-use Rattle.ice_flow_chip_frame.specs.Standing.{BitsStand, PackageStands, AscStands, Stands, HasChipFault, HasAscFault, LacksPackage, IsFaulty, IsBadBits}
+use Rattle.ice_flow_chip_frame.specs.Standing.{BitsStand, PackageStands, AscStands, TextsStand, HasChipFault, HasAscFault, LacksPackage, IsFaulty, IsBadBits}
 use Rattle.ice_flow_chip_frame.specs.Rows.{ChipRow, AscRow, PackageRow, IsBitsFault, BitsRow}
 use Rattle.ice_flow_chip_frame.proofs.Looks.{none_of, asc_stands, package_stands, bits_stand}
 use Rattle.ice_flow_chip_frame.proofs.Told.{Refuses, IsBehind, told}
@@ -32,7 +32,7 @@ IsLater cause = Unit {0}
 -- the command's texts stand so
 pub record IsOnBits (k : Command) (Then : List (List ℕ) → PackageRows → Cause → Type 0) (name : List ℕ) : Type 0 where
   pub lawful : Lawful k
-  pub stands : (t : List (List ℕ)) (cause : Cause) → k.Stands t cause → Stands (Then t) name t cause
+  pub stands : (t : List (List ℕ)) (cause : Cause) → k.Stands t cause → TextsStand (Then t) name t cause
   pub later : (t : List (List ℕ)) (bonded : PackageRows) (cause : Cause) → Then t bonded cause → IsLater cause
 
 faulty : (name : List ℕ) (t : List (List ℕ)) (fault : DecodeFault) → IsBadBits name fault t → IsFaulty name t

@@ -12,7 +12,7 @@ use Rattle.ice_flow_frame.specs.declared.cause.Cause.{Cause}
 use Rattle.ice_flow_frame.specs.declared.cause.Cause.TheVariants.{BadChip, BadPin, BadAsc, BadBits}
 use Rattle.ice_flow_frame.specs.Texts.{text_at}
 use Rattle.ice_flow_frame.proofs.Standings.{fault_alone, none_alone, then_stands, some_stands}
-use Rattle.ice_flow_chip_frame.specs.Standing.{BitsStand, PackageStands, AscStands, Stands, IsRead, IsPacked, IsConfigured, HasChipFault, HasAscFault, LacksPackage, IsBadBits}
+use Rattle.ice_flow_chip_frame.specs.Standing.{BitsStand, PackageStands, AscStands, TextsStand, IsRead, IsPacked, IsConfigured, HasChipFault, HasAscFault, LacksPackage, IsBadBits}
 use Rattle.ice_flow_chip_frame.proofs.Looks.{asc_stands}
 
 -- what a refusal of the chip text, of the text of bits, of the package or of the bits tells
@@ -56,10 +56,10 @@ module _ (Then : PackageRows → Cause → Type 0) (name : List ℕ) (t : List (
   told_asc parts (Ok k) chip is m =
       told_package parts k (package_of parts name) (record { is_chip = chip; are_bits = is }) refl (then_stands (asc_in parts (text_at t 2)) BadAsc (PackageStands Then name parts) k cause is m)
 
-  told_chip : (said : Result Parts ChipFault) → chip_says (text_at t 1) ≡ said → Stands Then name t cause → Tells
+  told_chip : (said : Result Parts ChipFault) → chip_says (text_at t 1) ≡ said → TextsStand Then name t cause → Tells
   told_chip (Err fault) is m = refuses (BadChip fault) (fault_alone (chip_says (text_at t 1)) BadChip (AscStands Then name (text_at t 2)) fault cause is m) is
   told_chip (Ok parts) is m = told_asc parts (asc_in parts (text_at t 2)) is refl (asc_stands Then name t parts cause is m)
 
   -- a standing is a refusal that tells so, or the bits have no fault and it stands as what follows
-  pub told : Stands Then name t cause → Refuses name t cause ⊎ IsBehind Then name t cause
+  pub told : TextsStand Then name t cause → Refuses name t cause ⊎ IsBehind Then name t cause
   told m = told_chip (chip_says (text_at t 1)) refl m

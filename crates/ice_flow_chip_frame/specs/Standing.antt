@@ -13,7 +13,8 @@ use Rattle.ice_decode.specs.declared.fault.DecodeFault.TheVariants as decode_fau
 use Rattle.ice_pads.specs.declared.fault.PinFault.TheVariants as pin_fault
 use Rattle.ice_flow_frame.specs.declared.cause.Cause.{Cause}
 use Rattle.ice_flow_frame.specs.declared.cause.Cause.TheVariants.{BadChip, BadPin, BadAsc, BadBits}
-use Rattle.ice_flow_frame.specs.Commands.{stands_by, stands_with, stands_if}
+use Rattle.ice_flow_frame.specs.Commands.{Command, Giving, Output, command_of, stands_by, stands_with, stands_if}
+use Rattle.ice_flow_frame.specs.Reading.{Files}
 use Rattle.ice_flow_frame.specs.Texts.{text_at}
 
 -- ---- what the texts say
@@ -83,5 +84,10 @@ abbrev pub AscStands : (PackageRows → Cause → Type 0) → List ℕ → List 
 AscStands Then name asc_text parts = stands_by (asc_in parts asc_text) BadAsc (PackageStands Then name parts)
 
 -- first the chip text is looked at, then the text of bits, then the package, and then the bits
-abbrev pub Stands : (PackageRows → Cause → Type 0) → List ℕ → List (List ℕ) → Cause → Type 0
-Stands Then name texts = stands_by (chip_says (text_at texts 1)) BadChip (AscStands Then name (text_at texts 2))
+abbrev pub TextsStand : (PackageRows → Cause → Type 0) → List ℕ → List (List ℕ) → Cause → Type 0
+TextsStand Then name texts = stands_by (chip_says (text_at texts 1)) BadChip (AscStands Then name (text_at texts 2))
+
+-- A command that reads a chip text, a text of bits and others: how it stands with them and a package behind bits without a fault, and what
+-- it gives for the name of the package.
+abbrev pub command_on_bits : Files → List ℕ → (List (List ℕ) → PackageRows → Cause → Type 0) → (List ℕ → Giving) → Output → Command
+command_on_bits files name Then Gives output = command_of files (λ texts. TextsStand (Then texts) name texts) (Gives name) output

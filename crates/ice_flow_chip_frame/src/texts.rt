@@ -1,6 +1,6 @@
 //! The files of a command, of which the first is a chip database's: it is read piece by piece, and the others whole.
 ghost use Rattle.std.specs.Prelude.{◌≡◌, ◌<◌, ◌≤◌, List, [], length, OnOk, IfOk, IfErr};
-ghost use Rattle.ice_desk.specs.Desk.{SameButReading, SameTest, after_one};
+ghost use Rattle.ice_desk.specs.Changes.{SameButReading, SameTest, after_one};
 ghost use Rattle.ice_flow_frame.specs.declared.cause.FileRole.TheVariants.{Chip};
 ghost use Rattle.ice_flow_frame.specs.Reading.{Files, most_bytes, IsReadStop, IsUnread, TellsLong};
 ghost use Rattle.ice_flow_frame.specs.Texts.{files_view, ArePermitted};
@@ -32,7 +32,8 @@ fn read_chip_text<D: Desk>(desk: &mut D, chip: &str, reader: &mut ChipReader) ->
     ensures begun { (D.seen desk.new).begins ≡ after_one (D.seen desk.old).begins }
     ensures text { OnOk result (HasRead (D.seen desk.old) chip.now reader.new) }
     ensures given { OnOk result ((D.seen desk.new).given ≤ most_bytes) }
-    ensures stop { IfErr result (λ cause. IsReadStop chip.now Chip (D.seen desk.old) (D.seen desk.new) cause) }
+    ensures stop { IfErr result (λ cause.
+        IsReadStop chip.now Chip (D.seen desk.old) (D.seen desk.new) cause) }
     ensures given_stop { IfErr result (λ cause. TellsLong (D.seen desk.new) cause) }
 {
     let role = FileRole::Chip;
@@ -60,8 +61,10 @@ pub fn read_chip_and_texts<D: Desk>(
     ensures same { SameButReading (D.seen desk.old) (D.seen desk.new) }
     ensures names_read { SameTest (D.may_read desk.old) (D.may_read desk.new) }
     ensures names_written { SameTest (D.may_write desk.old) (D.may_write desk.new) }
-    ensures texts { IfOk result (λ read. AreRead (with_chip chip.now (files_view files.now)) (D.seen desk.old) read.reader read.texts) }
-    ensures stop { IfErr result (λ cause. IsUnread (with_chip chip.now (files_view files.now)) (D.seen desk.old) (D.seen desk.new) cause) }
+    ensures texts { IfOk result (λ read. AreRead (with_chip chip.now (files_view files.now))
+        (D.seen desk.old) read.reader read.texts) }
+    ensures stop { IfErr result (λ cause. IsUnread (with_chip chip.now (files_view files.now))
+        (D.seen desk.old) (D.seen desk.new) cause) }
     ensures given { OnOk result (0 < length files.now → (D.seen desk.new).given ≤ most_bytes) }
     ensures given_stop { IfErr result (λ cause. TellsLong (D.seen desk.new) cause) }
 {

@@ -2,7 +2,8 @@
 use Rattle.std.proofs.Common.{◌≡◌, ◌∙◌, ◌+◌, ◌≤◌, ◌++◌, ℕ, Option, None, Some, List, true, sym, ap, subst, take, length, arith}
 use Rattle.std.specs.Global.{Vec}
 use Rattle.ice_place.specs.declared.arrangement.Arrangement.{Arrangement}
-use Rattle.ice_desk.specs.Desk.{Meaning, SameButReading, SameButSaying, Rose, after_more, HoldsAfter}
+use Rattle.ice_desk.specs.Desk.{Meaning}
+use Rattle.ice_desk.specs.Changes.{SameButReading, SameButSaying, Rose, after_more, HoldsAfter}
 use Rattle.ice_desk.specs.Said.{SaidRow, IsSilent}
 use Rattle.ice_core.specs.declared.log.RoundLog.{RoundLog}
 use Rattle.ice_negotiate_defs.specs.declared.kept.Kept.{Kept}

@@ -1,6 +1,7 @@
 -- From what came of the making, and how the command ended, to what is true of the command.
 use Rattle.std.proofs.Common.{◌≡◌, ◌≢◌, ◌∙◌, ◌≤◌, ◌<◌, ℕ, List, Option, None, Some, Result, Ok, Err, IfOk, IfErr, inl, inr, sym, ap, subst, arith}
-use Rattle.ice_desk.specs.Desk.{Meaning, SameButReading, SameButSaying, SameButWriting, Rose, after_one, HoldsAfter}
+use Rattle.ice_desk.specs.Desk.{Meaning}
+use Rattle.ice_desk.specs.Changes.{SameButReading, SameButSaying, SameButWriting, Rose, after_one, HoldsAfter}
 use Rattle.ice_desk.specs.Said.{IsSilent}
 use Rattle.ice_desk.proofs.Saying.{after_silence}
 use Rattle.ice_flow_frame.specs.declared.cause.Cause.{Cause}

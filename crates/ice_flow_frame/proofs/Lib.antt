@@ -3,6 +3,7 @@ pub mod TextFacts
 pub mod Writes
 pub mod Commanding
 pub mod Ended
+pub mod Refusing
 pub mod Standings
 pub mod CommandRows
 mod PieceTexts

@@ -2,7 +2,8 @@
 use Rattle.std.proofs.Common.{◌≡◌, ◌↔◌, ◌⊎◌, inl, inr, ◌∙◌, ◌≤◌, ◌<◌, ◌+◌, ℕ, Option, Some, List, length, refl, sym, ap, subst, true, arith}
 use Rattle.std.proofs.lemmas.Bool.{cases_lt}
 use Rattle.std.proofs.Math.Nat.{eq-or-lt_of_le}
-use Rattle.ice_desk.specs.Desk.{Meaning, SameButReading, SameButSaying, Rose, after_one, after_more}
+use Rattle.ice_desk.specs.Desk.{Meaning}
+use Rattle.ice_desk.specs.Changes.{SameButReading, SameButSaying, Rose, after_one, after_more}
 use Rattle.ice_flow_frame.specs.declared.cause.Cause.{Cause}
 use Rattle.ice_flow_frame.specs.declared.cause.Cause.TheVariants.{Good, Usage, BadBlif, BadPcf, BadChip, BadNet, BadPin, Overfull, Unreachable, GaveUp, ReadFault, WriteFault, NoMemory, BadAsc, BadBits, TooLong, BadLevels, BadDelays}
 use Rattle.ice_flow_frame.specs.declared.cause.FileRole.{FileRole}

@@ -1,7 +1,8 @@
 -- The texts of a command's files: those that were read, and those that the files hold.
 use Rattle.std.proofs.Common.{◌≡◌, ◌∙◌, ◌≤◌, ◌<◌, ◌+◌, ◌-◌, ℕ, Vec, zero, suc, true, Option, None, Some, List, [], ◌∷◌, ◌++◌, length, take, get_or, slice_index_or, sym, ap, subst, refl, arith}
 use Rattle.std.specs.declared.alloc.Global.{Global}
-use Rattle.ice_desk.specs.Desk.{Meaning, SameTest}
+use Rattle.ice_desk.specs.Desk.{Meaning}
+use Rattle.ice_desk.specs.Changes.{SameTest}
 use Rattle.ice_flow_frame.specs.declared.cause.Cause.{Cause}
 use Rattle.ice_flow_frame.specs.declared.files.CommandFile.{CommandFile}
 use Rattle.ice_flow_frame.specs.Reading.{most_bytes, File, Files, role_behind, role_at, name_behind, name_at, IsTextOf, FitBefore, IsReadStop, IsTooLong, IsFirstTooLong}

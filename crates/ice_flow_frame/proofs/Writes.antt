@@ -2,7 +2,8 @@
 use Rattle.std.proofs.Common.{◌≡◌, ◌≢◌, ◌∙◌, ◌+◌, ◌<◌, ◌≤◌, ℕ, zero, suc, Bool, true, false, true≢false, Option, Some, List, [], ◌∷◌, length, slice_index_or, refl, sym, ap, subst, arith}
 use Rattle.std.specs.Str.{bytes_eq}
 use Rattle.std.proofs.lemmas.Slice.Eq.{bytes_eq-Decides}
-use Rattle.ice_desk.specs.Desk.{Meaning, SameButWriting, Rose, after_one, after_more, HoldsAfter}
+use Rattle.ice_desk.specs.Desk.{Meaning}
+use Rattle.ice_desk.specs.Changes.{SameButWriting, Rose, after_one, after_more, HoldsAfter}
 use Rattle.ice_flow_frame.specs.declared.cause.FileRole.{FileRole}
 use Rattle.ice_flow_frame.specs.Ends.{SameButFiles}
 use Rattle.ice_flow_frame.specs.Reading.{Files, name_behind}

@@ -1,7 +1,8 @@
 -- Commands: what each reads, how its texts may stand, and what it makes of them; and what each answer says.
 use Rattle.std.specs.Prelude.{◌≡◌, ◌⊎◌, ℕ, true, Option, None, Some, List, ◌++◌, Result, Ok, Err}
 use Rattle.ice_place.specs.declared.arrangement.Arrangement.{Arrangement}
-use Rattle.ice_desk.specs.Desk.{Meaning, Rose, after_more}
+use Rattle.ice_desk.specs.Desk.{Meaning}
+use Rattle.ice_desk.specs.Changes.{Rose, after_more}
 use Rattle.ice_desk.specs.Said.{SaysFront}
 use Rattle.ice_flow_frame.specs.declared.cause.Cause.{Cause}
 use Rattle.ice_flow_frame.specs.declared.cause.Cause.TheVariants.{Good, GaveUp, ReadFault, WriteFault, NoMemory, TooLong}

@@ -2,7 +2,8 @@
 use Rattle.std.specs.Prelude.{◌≡◌, ℕ, Vec, ◌≤◌, true, List, Option, None, Some, Result, Ok, Err}
 use Rattle.std.specs.declared.alloc.Global.{Global}
 use Rattle.ice_place.specs.declared.arrangement.Arrangement.{Arrangement}
-use Rattle.ice_desk.specs.Desk.{Meaning, SameButSaying, SameButWriting, after_one}
+use Rattle.ice_desk.specs.Desk.{Meaning}
+use Rattle.ice_desk.specs.Changes.{SameButSaying, SameButWriting, after_one}
 use Rattle.ice_desk.specs.Said.{SaidRow}
 use Rattle.ice_flow_frame.specs.declared.cause.Cause.{Cause}
 use Rattle.ice_flow_frame.specs.declared.giving.Made.{Made}

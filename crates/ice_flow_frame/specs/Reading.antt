@@ -1,6 +1,7 @@
 -- What was read of the files of a command, each to its end, and why reading stopped.
 use Rattle.std.specs.Prelude.{◌≡◌, ℕ, zero, suc, ◌<◌, ◌≤◌, true, Some, List, [], ◌∷◌, length}
-use Rattle.ice_desk.specs.Desk.{Meaning, Rose, after_more}
+use Rattle.ice_desk.specs.Desk.{Meaning}
+use Rattle.ice_desk.specs.Changes.{Rose, after_more}
 use Rattle.ice_flow_frame.specs.declared.cause.Cause.{Cause}
 use Rattle.ice_flow_frame.specs.declared.cause.Cause.TheVariants.{ReadFault, NoMemory, TooLong}
 use Rattle.ice_flow_frame.specs.declared.cause.FileRole.{FileRole}

@@ -2,7 +2,8 @@
 use Rattle.std.specs.Prelude.{◌≡◌, ◌≢◌, ◌⊎◌, ◌↔◌, ℕ, ◌<◌, ◌≤◌, true, Option, Some, List, [], ◌∷◌, ◌++◌, length}
 use Rattle.std.specs.Global.{Vec}
 use Rattle.ice_place.specs.declared.arrangement.Arrangement.{Arrangement}
-use Rattle.ice_desk.specs.Desk.{Meaning, Rose, after_one, HoldsAfter}
+use Rattle.ice_desk.specs.Desk.{Meaning}
+use Rattle.ice_desk.specs.Changes.{Rose, after_one, HoldsAfter}
 use Rattle.ice_desk.specs.Said.{SaidRow}
 use Rattle.ice_negotiate_defs.specs.declared.kept.Kept.{Kept}
 use Rattle.ice_words.specs.Grips.{Shut}

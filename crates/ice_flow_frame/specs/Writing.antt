@@ -1,7 +1,8 @@
 -- The writing of texts to files, one after another: each file gets the text of its place.
 use Rattle.std.specs.Prelude.{◌≡◌, ◌≢◌, ℕ, zero, suc, ◌+◌, ◌<◌, true, Option, Some, List, [], ◌∷◌, length, if◌then◌else◌}
 use Rattle.std.specs.Str.{bytes_eq}
-use Rattle.ice_desk.specs.Desk.{Meaning, Rose, after_more, HoldsAfter}
+use Rattle.ice_desk.specs.Desk.{Meaning}
+use Rattle.ice_desk.specs.Changes.{Rose, after_more, HoldsAfter}
 use Rattle.ice_flow_frame.specs.declared.cause.FileRole.{FileRole}
 use Rattle.ice_flow_frame.specs.Reading.{File, Files, role_behind, name_behind}
 use Rattle.ice_flow_frame.specs.Texts.{text_behind, text_at}

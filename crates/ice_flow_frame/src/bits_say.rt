@@ -1,6 +1,6 @@
 //! Saying the line of a fault of bits, piece by piece. It takes no memory.
 ghost use Rattle.std.specs.Prelude.{◌≡◌, map, decimal, ◌∷◌, []};
-ghost use Rattle.ice_desk.specs.Desk.{SameButSaying, SameTest};
+ghost use Rattle.ice_desk.specs.Changes.{SameButSaying, SameTest};
 ghost use Rattle.ice_flow_frame.specs.Causes.{joined, spaced, names_line, numbers_line, wire_text, bits_line};
 ghost use Rattle.ice_desk.specs.Said.{IsSaid};
 ghost use Rattle.ice_flow_frame.specs.Pieces.{piece_text, IsLoopless};
@@ -13,7 +13,8 @@ use ice_desk::Desk;
 
 // A line of three pieces.
 fn short(head: &'static [u8], piece: Piece, tail: &'static [u8]) -> [Piece; 9]
-    ensures { joined (map piece_text result) ≡ joined (head.now ∷ piece_text piece ∷ tail.now ∷ []) }
+    ensures { joined (map piece_text result)
+        ≡ joined (head.now ∷ piece_text piece ∷ tail.now ∷ []) }
 {
     [
         Piece::Text(head),
@@ -37,7 +38,8 @@ fn numbered(
     tail: &'static [u8],
     third: u32,
 ) -> [Piece; 9]
-    ensures { joined (map piece_text result) ≡ numbers_line head.now first middle.now second tail.now third }
+    ensures { joined (map piece_text result)
+        ≡ numbers_line head.now first middle.now second tail.now third }
 {
     [
         Piece::Text(head),
@@ -113,7 +115,8 @@ fn say_each<D: Desk>(desk: &mut D, wires: &[WireNo]) -> bool
     ensures same { SameButSaying (D.seen desk.old) (D.seen desk.new) }
     ensures names_read { SameTest (D.may_read desk.old) (D.may_read desk.new) }
     ensures names_written { SameTest (D.may_write desk.old) (D.may_write desk.new) }
-    ensures said { IsSaid (D.seen desk.old) (D.seen desk.new) (joined (map wire_text wires.now)) result }
+    ensures said { IsSaid (D.seen desk.old) (D.seen desk.new)
+        (joined (map wire_text wires.now)) result }
 {
     for wire in wires {
         if !say_wire(desk, *wire) {
@@ -128,7 +131,8 @@ fn say_wires<D: Desk>(desk: &mut D, wires: &Wires) -> bool
     ensures same { SameButSaying (D.seen desk.old) (D.seen desk.new) }
     ensures names_read { SameTest (D.may_read desk.old) (D.may_read desk.new) }
     ensures names_written { SameTest (D.may_write desk.old) (D.may_write desk.new) }
-    ensures said { IsSaid (D.seen desk.old) (D.seen desk.new) (spaced (map decimal wires.now)) result }
+    ensures said { IsSaid (D.seen desk.old) (D.seen desk.new)
+        (spaced (map decimal wires.now)) result }
 {
     say_each(desk, wires.as_slice())
 }
@@ -138,7 +142,8 @@ fn say_wires_line<D: Desk>(desk: &mut D, head: &'static [u8], wires: &Wires) -> 
     ensures same { SameButSaying (D.seen desk.old) (D.seen desk.new) }
     ensures names_read { SameTest (D.may_read desk.old) (D.may_read desk.new) }
     ensures names_written { SameTest (D.may_write desk.old) (D.may_write desk.new) }
-    ensures said { IsSaid (D.seen desk.old) (D.seen desk.new) (names_line head.now (map decimal wires.now)) result }
+    ensures said { IsSaid (D.seen desk.old) (D.seen desk.new)
+        (names_line head.now (map decimal wires.now)) result }
 {
     if !say_all(desk, head) {
         return false;

@@ -1,6 +1,6 @@
 //! The end of a command: its status, and the line that a refusal says.
 ghost use Rattle.std.specs.Prelude.{◌≡◌, ◌↔◌, IsTrue, true};
-ghost use Rattle.ice_desk.specs.Desk.{SameButSaying, SameTest};
+ghost use Rattle.ice_desk.specs.Changes.{SameButSaying, SameTest};
 ghost use Rattle.ice_flow_frame.specs.Causes.{status_of, line_of};
 ghost use Rattle.ice_flow_frame.specs.Says.{IsWorkDone, SilentWhereDone};
 ghost use Rattle.ice_desk.specs.Said.{SaidRow};
@@ -64,7 +64,8 @@ pub fn finish<D: Desk>(desk: &mut D, cause: Cause) -> Done
     ensures names_written { SameTest (D.may_write desk.old) (D.may_write desk.new) }
     ensures cause { result.cause ≡ cause }
     ensures status { result.status ≡ status_of cause }
-    ensures said { (D.seen desk.old).tells ≡ true → SaidRow (D.seen desk.old) (D.seen desk.new) (line_of cause) }
+    ensures said { (D.seen desk.old).tells ≡ true
+        → SaidRow (D.seen desk.old) (D.seen desk.new) (line_of cause) }
     ensures silent { SilentWhereDone (D.seen desk.old) (D.seen desk.new) cause }
 {
     if is_done(&cause) {

@@ -1,6 +1,6 @@
 //! The files of a command, and texts: those of files, which are read one after another, each to its end, and those that are made.
 ghost use Rattle.std.specs.Prelude.{◌≡◌, ◌<◌, ◌≤◌, ◌++◌, ◌∷◌, [], length, OnOk, OnErr, IfOk, IfErr};
-ghost use Rattle.ice_desk.specs.Desk.{SameButReading, SameTest};
+ghost use Rattle.ice_desk.specs.Changes.{SameButReading, SameTest};
 ghost use Rattle.ice_flow_frame.specs.Reading.{most_bytes, IsUnread, TellsLong};
 ghost use Rattle.ice_flow_frame.specs.TextLists.{texts_view};
 ghost use Rattle.ice_flow_frame.specs.Texts.{files_view, ArePermitted, AreTexts, text_at};
@@ -77,7 +77,8 @@ pub fn one_text(alloc: Global, text: Vec<u8>) -> Result<Texts, NoMemory>
 
 // One text more.
 fn add_text(texts: &mut Vec<Vec<u8>>, text: Vec<u8>) -> Result<(), NoMemory>
-    ensures added { OnOk result (texts_view texts.new.items ≡ texts_view texts.old.items ++ text.items ∷ []) }
+    ensures added { OnOk result
+        (texts_view texts.new.items ≡ texts_view texts.old.items ++ text.items ∷ []) }
     ensures kept { OnErr result (texts_view texts.new.items ≡ texts_view texts.old.items) }
 {
     Ok(texts.push(text)?)
@@ -97,7 +98,8 @@ pub fn read_texts<D: Desk>(
     ensures names_read { SameTest (D.may_read desk.old) (D.may_read desk.new) }
     ensures names_written { SameTest (D.may_write desk.old) (D.may_write desk.new) }
     ensures texts { IfOk result (λ texts. AreTexts (files_view files.now) (D.seen desk.old) texts) }
-    ensures stop { IfErr result (λ cause. IsUnread (files_view files.now) (D.seen desk.old) (D.seen desk.new) cause) }
+    ensures stop { IfErr result (λ cause.
+        IsUnread (files_view files.now) (D.seen desk.old) (D.seen desk.new) cause) }
     ensures given { OnOk result (0 < length files.now → (D.seen desk.new).given ≤ most_bytes) }
     ensures given_stop { IfErr result (λ cause. TellsLong (D.seen desk.new) cause) }
 {

@@ -1,6 +1,6 @@
 //! Giving what a command made: it is said or written; or, where nothing was made, the line of the refusal is said.
 ghost use Rattle.std.specs.Prelude.{◌≡◌, ◌∷◌, [], IfOk, IfErr};
-ghost use Rattle.ice_desk.specs.Desk.{SameButSaying, SameTest};
+ghost use Rattle.ice_desk.specs.Changes.{SameButSaying, SameTest};
 ghost use Rattle.ice_flow_frame.specs.declared.cause.Cause.TheVariants.{NoMemory as out_of_memory};
 ghost use Rattle.ice_flow_frame.specs.Causes.{no_arrangement, status_of};
 ghost use Rattle.ice_flow_frame.specs.Commands.{Aloud, InFiles, IsPut};
@@ -67,7 +67,8 @@ fn put_aloud<D: Desk>(desk: &mut D, made: Made) -> Cause
     ensures same { SameButSaying (D.seen desk.old) (D.seen desk.new) }
     ensures names_read { SameTest (D.may_read desk.old) (D.may_read desk.new) }
     ensures names_written { SameTest (D.may_write desk.old) (D.may_write desk.new) }
-    ensures put { IsPut Aloud made.texts made.arrangement (told_in made) (D.seen desk.old) (D.seen desk.new) result }
+    ensures put { IsPut Aloud made.texts made.arrangement (told_in made) (D.seen desk.old)
+        (D.seen desk.new) result }
 {
     match say_text(desk, made.texts.at(1)) {
         Ok(()) => Cause::Good {
@@ -102,7 +103,8 @@ fn put_in_files<D: Desk>(desk: &mut D, files: &[CommandFile<'_>], made: Made) ->
     ensures same { SameButFiles (D.seen desk.old) (D.seen desk.new) }
     ensures names_read { SameTest (D.may_read desk.old) (D.may_read desk.new) }
     ensures names_written { SameTest (D.may_write desk.old) (D.may_write desk.new) }
-    ensures put { IsPut (InFiles (files_view files.now)) made.texts made.arrangement (told_in made) (D.seen desk.old) (D.seen desk.new) result }
+    ensures put { IsPut (InFiles (files_view files.now)) made.texts made.arrangement (told_in made)
+        (D.seen desk.old) (D.seen desk.new) result }
 {
     match write_texts(desk, files, &made.texts) {
         Ok(()) => Cause::Good {
@@ -131,7 +133,8 @@ pub fn end_in_files<D: Desk>(
     ensures status { result.status ≡ status_of result.cause }
     ensures names_read { SameTest (D.may_read desk.old) (D.may_read desk.new) }
     ensures names_written { SameTest (D.may_write desk.old) (D.may_write desk.new) }
-    ensures end { IsEndInFiles (files_view outputs.now) (parting_view parting.entry) made (D.seen desk.old) (D.seen desk.new) result.cause }
+    ensures end { IsEndInFiles (files_view outputs.now) (parting_view parting.entry) made
+        (D.seen desk.old) (D.seen desk.new) result.cause }
 {
     match made {
         Ok(made) => {

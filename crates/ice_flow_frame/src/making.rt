@@ -1,7 +1,7 @@
 //! Commands: files are read, something is made of their texts, and only then it is said or written.
 ghost use Rattle.std.specs.Prelude.{◌≡◌, ◌<◌, ℕ, List, length, true, None, IfOk, IfErr};
 ghost use Rattle.ice_place.specs.declared.arrangement.Arrangement.{Arrangement};
-ghost use Rattle.ice_desk.specs.Desk.{SameButReading, SameTest};
+ghost use Rattle.ice_desk.specs.Changes.{SameButReading, SameTest};
 ghost use Rattle.ice_flow_frame.specs.declared.cause.Cause.{Cause};
 ghost use Rattle.ice_flow_frame.specs.Causes.{status_of};
 ghost use Rattle.ice_flow_frame.specs.Reading.{TellsLong};
@@ -27,7 +27,8 @@ pub trait Making {
 
     /// What is made of the texts, or why nothing is made.
     fn make(&self, alloc: Global, texts: &Texts) -> Result<Made, Cause>
-        ensures given { IfOk result (λ made. gives self.now texts.now made.texts made.arrangement (told_in made)) }
+        ensures given { IfOk result (λ made.
+            gives self.now texts.now made.texts made.arrangement (told_in made)) }
         ensures refused { IfErr result (λ cause. IsRefusal (stands self.now texts.now) cause) };
 }
 
@@ -42,7 +43,10 @@ fn make_of<D: Desk, M: Making>(
     ensures same { SameButReading (D.seen desk.old) (D.seen desk.new) }
     ensures names_read { SameTest (D.may_read desk.old) (D.may_read desk.new) }
     ensures names_written { SameTest (D.may_write desk.old) (D.may_write desk.new) }
-    ensures made { (output : Output) → IsMadeOf (command_of (files_view files.now) (M.stands making.now) (M.gives making.now) output) (D.seen desk.old) (D.seen desk.new) result }
+    ensures made { (output : Output)
+        → IsMadeOf
+        (command_of (files_view files.now) (M.stands making.now) (M.gives making.now) output)
+        (D.seen desk.old) (D.seen desk.new) result }
     ensures given { 0 < length files.now → IsToldLong (D.seen desk.new) result }
 {
     match read_texts(alloc, desk, files) {
@@ -78,9 +82,13 @@ pub fn say_made<D: Desk, M: Making>(
     ensures names_read { SameTest (D.may_read desk.old) (D.may_read desk.new) }
     ensures names_written { SameTest (D.may_write desk.old) (D.may_write desk.new) }
     ensures status { result.status ≡ status_of result.cause }
-    ensures cause { IsTrueOf (command_of (files_view files.now) (M.stands making.now) (M.gives making.now) Aloud) (D.seen desk.old) (D.seen desk.new) result.cause }
-    ensures said { (D.seen desk.old).tells ≡ true → SaidBy Aloud (D.seen desk.old) (D.seen desk.new) result.cause }
-    ensures kept { (D.seen desk.old).tells ≡ true → KeptRow Aloud None (D.seen desk.old) (D.seen desk.new) result.cause }
+    ensures cause { IsTrueOf
+        (command_of (files_view files.now) (M.stands making.now) (M.gives making.now) Aloud)
+        (D.seen desk.old) (D.seen desk.new) result.cause }
+    ensures said { (D.seen desk.old).tells ≡ true
+        → SaidBy Aloud (D.seen desk.old) (D.seen desk.new) result.cause }
+    ensures kept { (D.seen desk.old).tells ≡ true
+        → KeptRow Aloud None (D.seen desk.old) (D.seen desk.new) result.cause }
     ensures made { (D.seen desk.new).makes ≡ (D.seen desk.old).makes }
     ensures given { 0 < length files.now → TellsLong (D.seen desk.new) result.cause }
 {

@@ -1,6 +1,6 @@
 //! Reading the files of a command, each to its end.
 ghost use Rattle.std.specs.Prelude.{◌≡◌, ◌≤◌, length, IfOk, IfErr, OnOk};
-ghost use Rattle.ice_desk.specs.Desk.{SameButReading, SameTest, after_one};
+ghost use Rattle.ice_desk.specs.Changes.{SameButReading, SameTest, after_one};
 ghost use Rattle.ice_flow_frame.specs.Reading.{IsTextOf, IsReadStop, TellsLong, most_bytes};
 
 use crate::cause::{Cause, FileRole};
@@ -29,7 +29,8 @@ pub fn read_text<D: Desk>(
     ensures fits { IfOk result (λ text. length text.items ≤ most_bytes) }
     ensures given { OnOk result ((D.seen desk.new).given ≤ most_bytes) }
     ensures given_stop { IfErr result (λ cause. TellsLong (D.seen desk.new) cause) }
-    ensures stop { IfErr result (λ cause. IsReadStop name.now role (D.seen desk.old) (D.seen desk.new) cause) }
+    ensures stop { IfErr result (λ cause.
+        IsReadStop name.now role (D.seen desk.old) (D.seen desk.new) cause) }
 {
     match read_whole(alloc, desk, name, MOST_BYTES) {
         Ok(text) => Ok(text),

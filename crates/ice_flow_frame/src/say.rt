@@ -1,6 +1,6 @@
 //! Saying the line of a refusal, piece by piece. It takes no memory.
 ghost use Rattle.std.specs.Prelude.{◌≡◌, map, decimal, codes, ◌∷◌, []};
-ghost use Rattle.ice_desk.specs.Desk.{SameButSaying, SameTest};
+ghost use Rattle.ice_desk.specs.Changes.{SameButSaying, SameTest};
 ghost use Rattle.ice_flow_frame.specs.Causes.{no_arrangement, joined, faulty_line, named_line, names_line, spaced, line_of, role_name, blif_line, pcf_line, chip_line, net_line, pin_line, place_line, asc_line};
 ghost use Rattle.ice_desk.specs.Said.{IsSaid};
 ghost use Rattle.ice_flow_frame.specs.Pieces.{piece_text, IsPlain, IsNameless, IsPortless};
@@ -60,7 +60,8 @@ pub(crate) fn say_pieces<D: Desk>(desk: &mut D, pieces: &[Piece]) -> bool
     ensures same { SameButSaying (D.seen desk.old) (D.seen desk.new) }
     ensures names_read { SameTest (D.may_read desk.old) (D.may_read desk.new) }
     ensures names_written { SameTest (D.may_write desk.old) (D.may_write desk.new) }
-    ensures said { IsSaid (D.seen desk.old) (D.seen desk.new) (joined (map piece_text pieces.now)) result }
+    ensures said { IsSaid (D.seen desk.old) (D.seen desk.new)
+        (joined (map piece_text pieces.now)) result }
 {
     for piece in pieces {
         if !say_piece(desk, *piece) {
@@ -102,7 +103,8 @@ fn one(text: &'static [u8]) -> [Piece; 5]
 
 // A line of three pieces.
 fn three(head: &'static [u8], piece: Piece, tail: &'static [u8]) -> [Piece; 5]
-    ensures { joined (map piece_text result) ≡ joined (head.now ∷ piece_text piece ∷ tail.now ∷ []) }
+    ensures { joined (map piece_text result)
+        ≡ joined (head.now ∷ piece_text piece ∷ tail.now ∷ []) }
 {
     [
         Piece::Text(head),
@@ -115,7 +117,8 @@ fn three(head: &'static [u8], piece: Piece, tail: &'static [u8]) -> [Piece; 5]
 
 // A line of five pieces.
 fn five(head: &'static [u8], piece: Piece, middle: &'static [u8], other: Piece) -> [Piece; 5]
-    ensures { joined (map piece_text result) ≡ joined (head.now ∷ piece_text piece ∷ middle.now ∷ piece_text other ∷ codes "\n" ∷ []) }
+    ensures { joined (map piece_text result)
+        ≡ joined (head.now ∷ piece_text piece ∷ middle.now ∷ piece_text other ∷ codes "\n" ∷ []) }
 {
     [
         Piece::Text(head),
@@ -128,14 +131,16 @@ fn five(head: &'static [u8], piece: Piece, middle: &'static [u8], other: Piece) 
 
 // A fault of the netlist's text at a line.
 fn blif_line(line: u32, cause: &'static [u8]) -> [Piece; 5]
-    ensures { joined (map piece_text result) ≡ faulty_line (codes "error 3 blif line ") line cause.now }
+    ensures { joined (map piece_text result)
+        ≡ faulty_line (codes "error 3 blif line ") line cause.now }
 {
     three(b"error 3 blif line ", Piece::Number(line as u64), cause)
 }
 
 // A fault of the text of the pins at a line.
 fn pcf_line(line: u32, cause: &'static [u8]) -> [Piece; 5]
-    ensures { joined (map piece_text result) ≡ faulty_line (codes "error 4 pcf line ") line cause.now }
+    ensures { joined (map piece_text result)
+        ≡ faulty_line (codes "error 4 pcf line ") line cause.now }
 {
     three(b"error 4 pcf line ", Piece::Number(line as u64), cause)
 }
@@ -174,7 +179,8 @@ fn pcf_pieces(fault: PcfFault) -> [Piece; 5]
 
 // A fault of the chip text at a line.
 fn chip_line(line: u32, cause: &'static [u8]) -> [Piece; 5]
-    ensures { joined (map piece_text result) ≡ faulty_line (codes "error 5 chip line ") line cause.now }
+    ensures { joined (map piece_text result)
+        ≡ faulty_line (codes "error 5 chip line ") line cause.now }
 {
     three(b"error 5 chip line ", Piece::Number(line as u64), cause)
 }
@@ -201,7 +207,8 @@ fn chip_pieces(fault: ChipFault) -> [Piece; 5]
 
 // A fault of the text of bits at a line.
 fn asc_line(line: u32, cause: &'static [u8]) -> [Piece; 5]
-    ensures { joined (map piece_text result) ≡ faulty_line (codes "error 14 asc line ") line cause.now }
+    ensures { joined (map piece_text result)
+        ≡ faulty_line (codes "error 14 asc line ") line cause.now }
 {
     three(b"error 14 asc line ", Piece::Number(line as u64), cause)
 }
@@ -231,7 +238,8 @@ fn pin_at(head: &'static [u8], line: u32) -> [Piece; 5]
 
 // A fault of two numbers.
 fn two(head: &'static [u8], first: u32, middle: &'static [u8], second: u32) -> [Piece; 5]
-    ensures { joined (map piece_text result) ≡ joined (head.now ∷ decimal first ∷ middle.now ∷ decimal second ∷ codes "\n" ∷ []) }
+    ensures { joined (map piece_text result)
+        ≡ joined (head.now ∷ decimal first ∷ middle.now ∷ decimal second ∷ codes "\n" ∷ []) }
 {
     let first = Piece::Number(first as u64);
     let second = Piece::Number(second as u64);
@@ -327,7 +335,8 @@ fn say_named<D: Desk>(desk: &mut D, head: &'static [u8], name: &Name) -> bool
     ensures same { SameButSaying (D.seen desk.old) (D.seen desk.new) }
     ensures names_read { SameTest (D.may_read desk.old) (D.may_read desk.new) }
     ensures names_written { SameTest (D.may_write desk.old) (D.may_write desk.new) }
-    ensures said { IsSaid (D.seen desk.old) (D.seen desk.new) (joined (head.now ∷ name.now ∷ [])) result }
+    ensures said { IsSaid (D.seen desk.old) (D.seen desk.new)
+        (joined (head.now ∷ name.now ∷ [])) result }
 {
     if !say_all(desk, head) {
         return false;
@@ -355,7 +364,8 @@ fn say_name_line<D: Desk>(desk: &mut D, head: &'static [u8], name: &Name) -> boo
     ensures same { SameButSaying (D.seen desk.old) (D.seen desk.new) }
     ensures names_read { SameTest (D.may_read desk.old) (D.may_read desk.new) }
     ensures names_written { SameTest (D.may_write desk.old) (D.may_write desk.new) }
-    ensures said { IsSaid (D.seen desk.old) (D.seen desk.new) (named_line head.now name.now) result }
+    ensures said { IsSaid (D.seen desk.old) (D.seen desk.new)
+        (named_line head.now name.now) result }
 {
     if !say_named(desk, head, name) {
         return false;
@@ -368,7 +378,8 @@ fn say_names_line<D: Desk>(desk: &mut D, head: &'static [u8], names: &Names) -> 
     ensures same { SameButSaying (D.seen desk.old) (D.seen desk.new) }
     ensures names_read { SameTest (D.may_read desk.old) (D.may_read desk.new) }
     ensures names_written { SameTest (D.may_write desk.old) (D.may_write desk.new) }
-    ensures said { IsSaid (D.seen desk.old) (D.seen desk.new) (names_line head.now names.now) result }
+    ensures said { IsSaid (D.seen desk.old) (D.seen desk.new)
+        (names_line head.now names.now) result }
 {
     if !say_all(desk, head) {
         return false;

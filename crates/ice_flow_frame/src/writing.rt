@@ -1,6 +1,6 @@
 //! Writing texts to files, one after another.
 ghost use Rattle.std.specs.Prelude.{◌≡◌, true, Some, IfErr, OnOk};
-ghost use Rattle.ice_desk.specs.Desk.{SameButWriting, SameTest, after_one};
+ghost use Rattle.ice_desk.specs.Changes.{SameButWriting, SameTest, after_one};
 ghost use Rattle.ice_flow_frame.specs.Ends.{SameButFiles, IsLeft, text_of};
 ghost use Rattle.ice_flow_frame.specs.Texts.{file_view, files_view, parting_view, ArePermitted, IsPermitted};
 ghost use Rattle.ice_flow_frame.specs.Writing.{IsWriteStop, AreWritten, AreWrittenInPart};
@@ -23,8 +23,10 @@ fn write_text<D: Desk>(desk: &mut D, file: &CommandFile<'_>, text: &[u8]) -> Res
     ensures names_read { SameTest (D.may_read desk.old) (D.may_read desk.new) }
     ensures names_written { SameTest (D.may_write desk.old) (D.may_write desk.new) }
     ensures made { (D.seen desk.new).makes ≡ after_one (D.seen desk.old).makes }
-    ensures written { OnOk result ((D.seen desk.old).tells ≡ true → (D.seen desk.new).files file.now.name.now ≡ Some text.now) }
-    ensures stop { IfErr result (λ stop. IsWriteStop (file_view file.now) text.now (D.seen desk.old) (D.seen desk.new) stop.role stop.put) }
+    ensures written { OnOk result ((D.seen desk.old).tells ≡ true
+        → (D.seen desk.new).files file.now.name.now ≡ Some text.now) }
+    ensures stop { IfErr result (λ stop. IsWriteStop (file_view file.now) text.now (D.seen desk.old)
+        (D.seen desk.new) stop.role stop.put) }
 {
     match write_whole(desk, file.name, text) {
         Ok(()) => Ok(()),
@@ -45,8 +47,10 @@ pub(crate) fn write_texts<D: Desk>(
     ensures same { SameButFiles (D.seen desk.old) (D.seen desk.new) }
     ensures names_read { SameTest (D.may_read desk.old) (D.may_read desk.new) }
     ensures names_written { SameTest (D.may_write desk.old) (D.may_write desk.new) }
-    ensures written { OnOk result (AreWritten (files_view files.now) texts.now (D.seen desk.old) (D.seen desk.new)) }
-    ensures stop { IfErr result (λ stop. AreWrittenInPart (files_view files.now) texts.now (D.seen desk.old) (D.seen desk.new) stop.role stop.put) }
+    ensures written { OnOk result
+        (AreWritten (files_view files.now) texts.now (D.seen desk.old) (D.seen desk.new)) }
+    ensures stop { IfErr result (λ stop. AreWrittenInPart (files_view files.now) texts.now
+        (D.seen desk.old) (D.seen desk.new) stop.role stop.put) }
 {
     let mut written = 0;
     while written < files.len() {
@@ -67,7 +71,8 @@ pub(crate) fn leave_report<D: Desk>(
     requires { IsPermitted (D.may_write desk.old) (parting_view parting) }
     ensures names_read { SameTest (D.may_read desk.old) (D.may_read desk.new) }
     ensures names_written { SameTest (D.may_write desk.old) (D.may_write desk.new) }
-    ensures left { IsLeft (parting_view parting.entry) (text_of report.now) (D.seen desk.old) (D.seen desk.new) }
+    ensures left { IsLeft (parting_view parting.entry) (text_of report.now)
+        (D.seen desk.old) (D.seen desk.new) }
 {
     if let Some(file) = parting {
         if let Some(text) = report {

@@ -3,7 +3,7 @@ use Rattle.std.proofs.Common.{◌≡◌, ℕ, Option, None, Some, Result, Ok, Er
 use Rattle.std.specs.Prelude.{All, slice_index_or}
 use Rattle.std.specs.List.{zip}
 use Rattle.std.proofs.lemmas.List.Elements.{All-head, All-tail}
-use Rattle.ice_base.specs.Text.{text_of_lines}
+use Rattle.ice_base.specs.Lines.{text_of_lines}
 use Rattle.ice_net.specs.declared.port.Port.{Port}
 use Rattle.ice_net.specs.Formed.{IsPortBelow, IsFormed}
 use Rattle.ice_net.specs.NetlistData.{NetlistData}

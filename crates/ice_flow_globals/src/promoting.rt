@@ -22,7 +22,8 @@ pub fn promote_clocks(alloc: Global, chip: &Chip, sound: Sound) -> Result<Sound,
     requires { CanBePromoted sound }
     ensures netlist { IfOk result (λ made. made ≡ promoted_on chip.now sound) }
     ensures ports { IfOk result (λ made. made.ports ≡ sound.ports) }
-    ensures shows { IfOk result (λ made. (levels : List (List Bool)) → shows made levels ≡ shows sound levels) }
+    ensures shows { IfOk result (λ made.
+        (levels : List (List Bool)) → shows made levels ≡ shows sound levels) }
 {
     let free = free_beside(globals(chip), sound.netlist());
     promote(alloc, sound, free)

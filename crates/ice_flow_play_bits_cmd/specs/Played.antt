@@ -31,7 +31,7 @@ LevelsStand levels_text bonded = stands_by (levels_of (length bonded.pads) level
 
 -- first the chip text is looked at, then the text of bits, then the package, then the bits, and then the levels
 abbrev pub StandsForPlayBits : List ℕ → List (List ℕ) → Cause → Type 0
-StandsForPlayBits name texts = bits.Stands (LevelsStand (text_at texts 3)) name texts
+StandsForPlayBits name texts = bits.TextsStand (LevelsStand (text_at texts 3)) name texts
 
 -- the bits have no fault, and this line of the level text is the first that isn't one level for each pad of the package
 pub record HasBadLine (name : List ℕ) (line : ℕ) (texts : List (List ℕ)) : Type 0 where

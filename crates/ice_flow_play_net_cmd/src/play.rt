@@ -1,6 +1,6 @@
 //! Playing a netlist: two texts are read, and the text of drives is said.
 ghost use Rattle.std.specs.Prelude.{◌≡◌, true, None};
-ghost use Rattle.ice_desk.specs.Desk.{SameTest};
+ghost use Rattle.ice_desk.specs.Changes.{SameTest};
 ghost use Rattle.ice_flow_frame.specs.Causes.{status_of};
 ghost use Rattle.ice_flow_frame.specs.Commands.{Aloud, IsTrueOf};
 ghost use Rattle.ice_flow_frame.specs.Reading.{TellsLong};
@@ -28,7 +28,8 @@ struct Playing;
 impl Making for Playing {
     ghost stands = { λ playing texts cause. StandsForPlayNet texts cause };
 
-    ghost gives = { λ playing texts made arrangement told. IsMadeByPlayNet texts made arrangement told };
+    ghost gives = { λ playing texts made arrangement told.
+        IsMadeByPlayNet texts made arrangement told };
 
     fn make(&self, alloc: Global, texts: &Texts) -> Result<Made, Cause> {
         let netlist = match read_blif(alloc, texts.at(1)) {
@@ -60,9 +61,12 @@ pub fn play_net<D: Desk>(alloc: Global, desk: &mut D, request: &PlayNetRequest<'
     ensures names_read { SameTest (D.may_read desk.old) (D.may_read desk.new) }
     ensures names_written { SameTest (D.may_write desk.old) (D.may_write desk.new) }
     ensures status { result.status ≡ status_of result.cause }
-    ensures cause { IsTrueOf (play_net (net_view request.now)) (D.seen desk.old) (D.seen desk.new) result.cause }
-    ensures said { (D.seen desk.old).tells ≡ true → SaidBy Aloud (D.seen desk.old) (D.seen desk.new) result.cause }
-    ensures kept { (D.seen desk.old).tells ≡ true → KeptRow Aloud None (D.seen desk.old) (D.seen desk.new) result.cause }
+    ensures cause { IsTrueOf (play_net (net_view request.now)) (D.seen desk.old)
+        (D.seen desk.new) result.cause }
+    ensures said { (D.seen desk.old).tells ≡ true
+        → SaidBy Aloud (D.seen desk.old) (D.seen desk.new) result.cause }
+    ensures kept { (D.seen desk.old).tells ≡ true
+        → KeptRow Aloud None (D.seen desk.old) (D.seen desk.new) result.cause }
     ensures made { (D.seen desk.new).makes ≡ (D.seen desk.old).makes }
     ensures given { TellsLong (D.seen desk.new) result.cause }
 {

@@ -1,7 +1,7 @@
 -- What is placed and routed of a netlist: its clocks take the globals of a chip that are free, and then the ends of its carry chains stand in
 -- their runs.
 use Rattle.std.specs.Prelude.{◌≢◌, ◌⊎◌, ℕ, ◌<◌, List, length, All}
-use Rattle.ice_base.specs.Text.{IsWord}
+use Rattle.ice_base.specs.Lines.{IsWord}
 use Rattle.ice_net.specs.NetlistData.{NetlistData}
 use Rattle.ice_chip.specs.Database.{Parts}
 use Rattle.ice_flow_globals.specs.Clocks.{promoted_on}

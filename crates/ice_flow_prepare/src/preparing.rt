@@ -31,7 +31,8 @@ pub fn prepare(alloc: Global, chip: &Chip, sound: Sound) -> Result<Sound, NoMemo
     requires { CanBePrepared sound }
     ensures netlist { IfOk result (λ made. made ≡ prepared_on chip.now sound) }
     ensures ports { IfOk result (λ made. made.ports ≡ sound.ports) }
-    ensures shows { IfOk result (λ made. (levels : List (List Bool)) → shows made levels ≡ shows sound levels) }
+    ensures shows { IfOk result (λ made.
+        (levels : List (List Bool)) → shows made levels ≡ shows sound levels) }
 {
     can_be_promoted(&sound);
     sound.is_sound();

@@ -1,10 +1,10 @@
 -- From what the stages answer to what is made of the sample texts, or why they are refused.
-use Rattle.std.proofs.Common.{◌≡◌, ℕ, false, List, Result, Ok, Err, IfOk, IfErr, refl, sym, subst}
+use Rattle.std.proofs.Common.{◌≡◌, ℕ, false, List, Result, Ok, Err, IfOk, refl, sym, subst}
 use Rattle.ice_flow_frame.proofs.Standings.{at_fault, behind, pin_refused, place_refused}
 use Rattle.ice_flow_frame.specs.Commands.{IsRefusal}
 use Rattle.ice_flow_frame.specs.Texts.{text_at}
 use Rattle.ice_flow_frame.specs.declared.cause.Cause.{Cause}
-use Rattle.ice_flow_frame.specs.declared.cause.Cause.TheVariants.{Good, Usage, BadBlif, BadPcf, BadChip, BadNet, BadPin, Overfull, Unreachable, GaveUp, ReadFault, WriteFault, NoMemory, BadAsc, BadBits, TooLong, BadLevels, BadDelays}
+use Rattle.ice_flow_frame.specs.declared.cause.Cause.TheVariants.{BadPin, Overfull, Unreachable, GaveUp, NoMemory}
 use Rattle.ice_flow_frame.specs.declared.giving.Made.{Made}
 use Rattle.ice_flow_build.proofs.Answering.{pins_good, places_good}
 use Rattle.ice_flow_build.specs.Answers.{IsRouted, net_count, pins_said, places_said}
@@ -25,37 +25,6 @@ use Rattle.ice_flow_sample_cmd.specs.Made.{IsSampled, summary_of, routing_told}
 use Rattle.ice_flow_sample_cmd.specs.Samples.{sample_effort, IsAsked}
 use Rattle.ice_flow_sample_cmd.specs.Standing.{IsEnd, PlacesStand, TaskStands}
 use Rattle.ice_flow_sample_cmd.proofs.Standing.{end_so}
-
--- ---- a refusal of what was read behind others
-pub refusal_behind : (Before Behind : Cause → Type 0) (cause : Cause) → ((c : Cause) → Behind c → Before c) → IsRefusal Behind cause → IsRefusal Before cause
-refusal_behind Before Behind (Good arrangement tallies kept) so is = absurd is
-refusal_behind Before Behind Usage so is = (so Usage is.0, is.1)
-refusal_behind Before Behind (BadBlif fault) so is = (so (BadBlif fault) is.0, is.1)
-refusal_behind Before Behind (BadPcf fault) so is = (so (BadPcf fault) is.0, is.1)
-refusal_behind Before Behind (BadChip fault) so is = (so (BadChip fault) is.0, is.1)
-refusal_behind Before Behind (BadNet fault) so is = (so (BadNet fault) is.0, is.1)
-refusal_behind Before Behind (BadPin fault) so is = (so (BadPin fault) is.0, is.1)
-refusal_behind Before Behind (Overfull fault) so is = (so (Overfull fault) is.0, is.1)
-refusal_behind Before Behind (Unreachable arrangement net sink) so is = (so (Unreachable arrangement net sink) is.0, is.1)
-refusal_behind Before Behind (GaveUp arrangement logs tallies kept) so is = (so (GaveUp arrangement logs tallies kept) is.0, is.1)
-refusal_behind Before Behind (ReadFault role) so is = absurd is
-refusal_behind Before Behind (WriteFault role put) so is = absurd is
-refusal_behind Before Behind NoMemory so is = tt
-refusal_behind Before Behind (BadAsc fault) so is = (so (BadAsc fault) is.0, is.1)
-refusal_behind Before Behind (BadBits fault) so is = (so (BadBits fault) is.0, is.1)
-refusal_behind Before Behind (TooLong role limit) so is = absurd is
-refusal_behind Before Behind (BadLevels line) so is = (so (BadLevels line) is.0, is.1)
-refusal_behind Before Behind (BadDelays line) so is = (so (BadDelays line) is.0, is.1)
-
-pub refused_behind : {V : Type 0} (Before Behind : Cause → Type 0) (result : Result V Cause) → ((c : Cause) → Behind c → Before c) → IfErr result (λ cause. IsRefusal Behind cause)
-    → IfErr result (λ cause. IsRefusal Before cause)
-refused_behind Before Behind (Ok value) so is = tt
-refused_behind Before Behind (Err cause) so is = refusal_behind Before Behind cause so is
-
--- want of memory is a refusal, however the texts stand
-pub memory_refused : {V : Type 0} (StandsForSample : Cause → Type 0) (result : Result V Cause) → IfErr result (λ cause. cause ≡ NoMemory) → IfErr result (λ cause. IsRefusal StandsForSample cause)
-memory_refused StandsForSample (Ok value) is = tt
-memory_refused StandsForSample (Err cause) is = subst (IsRefusal StandsForSample) (sym is) tt
 
 -- ---- the stages
 pub lay_refused : (task : Task) (fault : BuildFault) (cause : Cause) → IsLayFault task fault → IsCauseOf fault cause → IsRefusal (TaskStands task) cause

@@ -32,7 +32,8 @@ use Rattle.ice_check.specs.declared.fault.NetFault.TheVariants as net_fault
 use Rattle.ice_chip.specs.Database.{Parts}
 use Rattle.ice_chip_read.specs.Whole.{chip_says}
 use Rattle.ice_core.specs.declared.log.RoundLog.{RoundLog}
-use Rattle.ice_desk.specs.Desk.{Meaning, SameButReading, SameButSaying}
+use Rattle.ice_desk.specs.Desk.{Meaning}
+use Rattle.ice_desk.specs.Changes.{SameButReading, SameButSaying}
 use Rattle.ice_net.specs.NetlistData.{NetlistData}
 use Rattle.ice_flow_sample_cmd.specs.Command.{sample}
 use Rattle.ice_flow_sample_cmd.specs.Made.{IsSampled, IsToldOn}

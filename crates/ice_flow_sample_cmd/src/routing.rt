@@ -68,7 +68,8 @@ fn made_of(
 // A placed and routed design summed up.
 fn sum_up(alloc: Global, chip: &Chip, number: u64, made: RoutedLayout) -> Result<Made, Cause>
     requires { length made.nets.items ≡ net_count chip.now (plan_in made.layout) }
-    ensures text { IfOk result (λ told. text_at told.texts 1 ≡ summary_text (summary_of number chip.now made.layout made.routed)) }
+    ensures text { IfOk result (λ told.
+        text_at told.texts 1 ≡ summary_text (summary_of number chip.now made.layout made.routed)) }
     ensures arrangement { IfOk result (λ told. told.arrangement ≡ arrangement_in made.layout) }
     ensures told { IfOk result (λ told. told_in told ≡ telling made.routed.tallies made.kept) }
     ensures stop { IfErr result (λ cause. cause ≡ out_of_memory) }
@@ -99,10 +100,13 @@ fn route_placed<G: Gate + Sync, R: Threads + Sync>(
     layout: Layout,
 ) -> Result<Made, Cause>
     requires workers { IsManned request.now.workers }
-    requires asked { IsAsked request.now.number (task_of index.now.chip.now package_name [] sound.now) }
+    requires asked { IsAsked request.now.number
+        (task_of index.now.chip.now package_name [] sound.now) }
     requires laid { IsLaidOut (task_of index.now.chip.now package_name [] sound.now) layout }
-    ensures made { IfOk result (λ made. IsSampled request.now.number (text_at made.texts 1) made.arrangement (told_in made)) }
-    ensures refused { IfErr result (λ cause. IsRefusal (TaskStands (task_of index.now.chip.now package_name [] sound.now)) cause) }
+    ensures made { IfOk result (λ made.
+        IsSampled request.now.number (text_at made.texts 1) made.arrangement (told_in made)) }
+    ensures refused { IfErr result (λ cause.
+        IsRefusal (TaskStands (task_of index.now.chip.now package_name [] sound.now)) cause) }
 {
     layouts_stand_on_their_chip(index.chip, sound);
     let effort = Effort {
@@ -127,9 +131,12 @@ fn route_by<G: Gate + Sync, R: Threads + Sync>(
     sound: &Sound,
 ) -> Result<Made, Cause>
     requires workers { IsManned request.now.workers }
-    requires asked { IsAsked request.now.number (task_of index.now.chip.now package_name [] sound.now) }
-    ensures made { IfOk result (λ made. IsSampled request.now.number (text_at made.texts 1) made.arrangement (told_in made)) }
-    ensures refused { IfErr result (λ cause. IsRefusal (TaskStands (task_of index.now.chip.now package_name [] sound.now)) cause) }
+    requires asked { IsAsked request.now.number
+        (task_of index.now.chip.now package_name [] sound.now) }
+    ensures made { IfOk result (λ made.
+        IsSampled request.now.number (text_at made.texts 1) made.arrangement (told_in made)) }
+    ensures refused { IfErr result (λ cause.
+        IsRefusal (TaskStands (task_of index.now.chip.now package_name [] sound.now)) cause) }
 {
     let pcf = match no_constraints(alloc) {
         Ok(pcf) => pcf,
@@ -154,9 +161,12 @@ pub fn route_task<G: Gate + Sync, R: Threads + Sync>(
     task: &SampleTask,
 ) -> Result<Made, Cause>
     requires workers { IsManned request.now.workers }
-    requires asked { IsAsked request.now.number (task_of task.now.chip package_name [] task.now.sound) }
-    ensures made { IfOk result (λ made. IsSampled request.now.number (text_at made.texts 1) made.arrangement (told_in made)) }
-    ensures refused { IfErr result (λ cause. IsRefusal (TaskStands (task_of task.now.chip package_name [] task.now.sound)) cause) }
+    requires asked { IsAsked request.now.number
+        (task_of task.now.chip package_name [] task.now.sound) }
+    ensures made { IfOk result (λ made.
+        IsSampled request.now.number (text_at made.texts 1) made.arrangement (told_in made)) }
+    ensures refused { IfErr result (λ cause.
+        IsRefusal (TaskStands (task_of task.now.chip package_name [] task.now.sound)) cause) }
 {
     let SampleTask { chip, sound } = task;
     match Index::new(alloc, chip) {

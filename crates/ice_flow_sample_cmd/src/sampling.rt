@@ -5,7 +5,7 @@ ghost use Rattle.ice_flow_frame.specs.Causes.{status_of};
 ghost use Rattle.ice_flow_frame.specs.Commands.{Aloud, IsRefusal, IsTrueOf};
 ghost use Rattle.ice_flow_frame.specs.Rows.{SaidBy, KeptRow};
 ghost use Rattle.ice_flow_frame.specs.Texts.{text_at};
-ghost use Rattle.ice_desk.specs.Desk.{SameButSaying, SameTest};
+ghost use Rattle.ice_desk.specs.Changes.{SameButSaying, SameTest};
 ghost use Rattle.ice_flow_sample_cmd.specs.Command.{sample};
 ghost use Rattle.ice_flow_sample_cmd.specs.Made.{IsSampled};
 ghost use Rattle.ice_flow_words.specs.Views.{sample_view};
@@ -29,7 +29,8 @@ fn make<G: Gate + Sync, R: Threads + Sync>(
     request: &SampleRequest,
 ) -> Result<Made, Cause>
     requires { IsManned request.now.workers }
-    ensures made { IfOk result (λ made. IsSampled request.now.number (text_at made.texts 1) made.arrangement (told_in made)) }
+    ensures made { IfOk result (λ made.
+        IsSampled request.now.number (text_at made.texts 1) made.arrangement (told_in made)) }
     ensures refused { IfErr result (λ cause. IsRefusal (StandsForSample request.now.number) cause) }
 {
     match read_sample(alloc, request.number) {
@@ -61,10 +62,14 @@ pub fn sample<D: Desk, G: Gate + Sync, R: Threads + Sync>(
     ensures names_read { SameTest (D.may_read desk.old) (D.may_read desk.new) }
     ensures names_written { SameTest (D.may_write desk.old) (D.may_write desk.new) }
     ensures status { result.status ≡ status_of result.cause }
-    ensures cause { IsTrueOf (sample (sample_view request.now)) (D.seen desk.old) (D.seen desk.new) result.cause }
-    ensures rows { IsSampleAnswer (sample_view request.now) (D.seen desk.old) (D.seen desk.new) result }
-    ensures said { (D.seen desk.old).tells ≡ true → SaidBy Aloud (D.seen desk.old) (D.seen desk.new) result.cause }
-    ensures kept { (D.seen desk.old).tells ≡ true → KeptRow Aloud None (D.seen desk.old) (D.seen desk.new) result.cause }
+    ensures cause { IsTrueOf (sample (sample_view request.now)) (D.seen desk.old)
+        (D.seen desk.new) result.cause }
+    ensures rows { IsSampleAnswer (sample_view request.now) (D.seen desk.old)
+        (D.seen desk.new) result }
+    ensures said { (D.seen desk.old).tells ≡ true
+        → SaidBy Aloud (D.seen desk.old) (D.seen desk.new) result.cause }
+    ensures kept { (D.seen desk.old).tells ≡ true
+        → KeptRow Aloud None (D.seen desk.old) (D.seen desk.new) result.cause }
     ensures made { (D.seen desk.new).makes ≡ (D.seen desk.old).makes }
 {
     let made = make(rt, alloc, gate, request);

@@ -23,7 +23,8 @@ fn summary_of(
     routed: &Routed,
 ) -> Option<Summary>
     requires { length nets.now ≡ net_count chip.now (plan_in layout.now) }
-    ensures { IfSome result (λ summary. summary ≡ summary_of number chip.now layout.now routed.now) }
+    ensures { IfSome result (λ summary.
+        summary ≡ summary_of number chip.now layout.now routed.now) }
 {
     let Ok(cells) = u32::try_from(layout.design.cells().len()) else {
         return None;
@@ -69,7 +70,8 @@ pub fn summary_text(
     routed: &Routed,
 ) -> Result<Vec<u8>, NoMemory>
     requires { length nets.now ≡ net_count chip.now (plan_in layout.now) }
-    ensures { IfOk result (λ text. text.items ≡ summary_text (summary_of number chip.now layout.now routed.now)) }
+    ensures { IfOk result (λ text.
+        text.items ≡ summary_text (summary_of number chip.now layout.now routed.now)) }
 {
     match summary_of(chip, number, layout, nets, routed) {
         Some(summary) => text_of(alloc, &summary),

@@ -43,7 +43,8 @@ fn net_text(alloc: Global, number: u64) -> Result<Vec<u8>, NoMemory>
 fn read_chip_text(alloc: Global, text: &[u8]) -> Result<Chip, Cause>
     requires { text.now ≡ chip_text }
     ensures chip { IfOk result (λ chip. chip_says chip_text ≡ Ok chip) }
-    ensures refused { IfErr result (λ cause. (number : ℕ) → IsRefusal (StandsForSample number) cause) }
+    ensures refused { IfErr result (λ cause.
+        (number : ℕ) → IsRefusal (StandsForSample number) cause) }
 {
     match read_chip(alloc, text) {
         Ok(chip) => Ok(chip),
@@ -54,7 +55,8 @@ fn read_chip_text(alloc: Global, text: &[u8]) -> Result<Chip, Cause>
 // The sample chip.
 fn read_sample_chip(alloc: Global) -> Result<Chip, Cause>
     ensures chip { IfOk result (λ chip. chip_says chip_text ≡ Ok chip) }
-    ensures refused { IfErr result (λ cause. (number : ℕ) → IsRefusal (StandsForSample number) cause) }
+    ensures refused { IfErr result (λ cause.
+        (number : ℕ) → IsRefusal (StandsForSample number) cause) }
 {
     match chip_text(alloc) {
         Ok(text) => read_chip_text(alloc, &text),
@@ -66,7 +68,8 @@ fn read_sample_chip(alloc: Global) -> Result<Chip, Cause>
 fn read_net_text(alloc: Global, number: u64, text: &[u8]) -> Result<Netlist, Cause>
     requires { text.now ≡ net_text number }
     ensures netlist { IfOk result (λ netlist. netlist_of (net_text number) ≡ Ok netlist) }
-    ensures refused { IfErr result (λ cause. (parts : Parts) → IsRefusal (BlifStands number parts) cause) }
+    ensures refused { IfErr result (λ cause.
+        (parts : Parts) → IsRefusal (BlifStands number parts) cause) }
 {
     match read_blif(alloc, text) {
         Ok(netlist) => Ok(netlist),
@@ -77,7 +80,8 @@ fn read_net_text(alloc: Global, number: u64, text: &[u8]) -> Result<Netlist, Cau
 // The netlist of a number.
 fn read_netlist(alloc: Global, number: u64) -> Result<Netlist, Cause>
     ensures netlist { IfOk result (λ netlist. netlist_of (net_text number) ≡ Ok netlist) }
-    ensures refused { IfErr result (λ cause. (parts : Parts) → IsRefusal (BlifStands number parts) cause) }
+    ensures refused { IfErr result (λ cause.
+        (parts : Parts) → IsRefusal (BlifStands number parts) cause) }
 {
     match net_text(alloc, number) {
         Ok(text) => read_net_text(alloc, number, &text),
@@ -90,7 +94,8 @@ fn check_netlist(alloc: Global, number: u64, netlist: Netlist) -> Result<Sound, 
     requires { netlist_of (net_text number) ≡ Ok netlist }
     ensures netlist { IfOk result (λ sound. netlist_of (net_text number) ≡ Ok sound) }
     ensures sound { IfOk result (λ sound. IsSound sound) }
-    ensures refused { IfErr result (λ cause. (parts : Parts) → IsRefusal (BlifStands number parts) cause) }
+    ensures refused { IfErr result (λ cause.
+        (parts : Parts) → IsRefusal (BlifStands number parts) cause) }
 {
     match check(alloc, netlist) {
         Ok(sound) => Ok(sound),
@@ -102,7 +107,8 @@ fn check_netlist(alloc: Global, number: u64, netlist: Netlist) -> Result<Sound, 
 fn read_sample_net(alloc: Global, number: u64) -> Result<Sound, Cause>
     ensures netlist { IfOk result (λ sound. netlist_of (net_text number) ≡ Ok sound) }
     ensures sound { IfOk result (λ sound. IsSound sound) }
-    ensures refused { IfErr result (λ cause. (parts : Parts) → IsRefusal (BlifStands number parts) cause) }
+    ensures refused { IfErr result (λ cause.
+        (parts : Parts) → IsRefusal (BlifStands number parts) cause) }
 {
     match read_netlist(alloc, number) {
         Ok(netlist) => check_netlist(alloc, number, netlist),
@@ -124,7 +130,8 @@ pub struct SampleTask {
 /// # Errors
 /// The fault of the chip's text, then that of the netlist's text, or of the netlist; want of memory.
 pub fn read_sample(alloc: Global, number: u64) -> Result<SampleTask, Cause>
-    ensures task { IfOk result (λ task. IsAsked number (task_of task.chip package_name [] task.sound)) }
+    ensures task { IfOk result (λ task.
+        IsAsked number (task_of task.chip package_name [] task.sound)) }
     ensures refused { IfErr result (λ cause. IsRefusal (StandsForSample number) cause) }
 {
     let chip = match read_sample_chip(alloc) {

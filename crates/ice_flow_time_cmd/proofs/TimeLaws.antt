@@ -14,13 +14,12 @@ use Rattle.ice_flow_frame.proofs.CommandRows.{Lawful, StandsAlone, comes}
 use Rattle.ice_flow_frame.proofs.Standings.{behind, fault_alone, then_stands, of_done}
 use Rattle.ice_flow_frame.proofs.TextFacts.{of_weaker}
 use Rattle.ice_flow_chip_frame.proofs.Looks.{then_so, configured_so}
-use Rattle.ice_flow_chip_frame.proofs.RowLaws as bits
 use Rattle.ice_flow_chip_frame.proofs.RowLaws.{IsLater, IsOnBits}
 use Rattle.ice_flow_chip_frame.proofs.Told.{told}
 use Rattle.ice_flow_time_cmd.specs.Timings.{Time, files_of, delays_cause, DelaysStand, StandsForTime, HasBadDelays, time}
-use Rattle.ice_flow_time_cmd.specs.TimeRows.{ChipRow, AscRow, PackageRow, BitsRow, DelaysRow}
+use Rattle.ice_flow_time_cmd.specs.TimeRows.{DelaysRow}
 
-abbrev Then : List (List ℕ) → PackageRows → Cause → Type 0
+abbrev pub Then : List (List ℕ) → PackageRows → Cause → Type 0
 Then texts = DelaysStand (text_at texts 3)
 
 -- what is true of the fault of each line, and of each answer of done work, is true of delays that stand so
@@ -69,27 +68,14 @@ alone p t made on counted cause g m =
     then_stands (delays_of (text_at t 3)) delays_cause (λ delays. IsDone) g.0.delays cause g.0.delays_are
     (then_so (Then t) p.package_name t g.0.parts g.0.configuration g.0.bonded cause g.0.is_configured m)
 
-on_bits : (p : Time) → IsOnBits (time p) Then p.package_name
+pub on_bits : (p : Time) → IsOnBits (time p) Then p.package_name
 on_bits p = record {
   lawful = lawful p;
   stands = λ t cause m. m;
   later = λ t bonded cause m. of_delays IsLater bonded (text_at t 3) cause (λ line is. tt) (λ c done. of_done IsLater (λ arrangement tallies kept. tt) (λ role put. tt) c done) m;
 }
 
--- ---- the rows
-
-pub chip_row : (p : Time) (old new : Meaning) (cause : Cause) → IsTrueOf (time p) old new cause → ChipRow p old cause
-chip_row p old new cause is = bits.chip_row (time p) Then p.package_name (on_bits p) old new cause is
-
-pub asc_row : (p : Time) (old new : Meaning) (cause : Cause) → IsTrueOf (time p) old new cause → AscRow p old cause
-asc_row p old new cause is = bits.asc_row (time p) Then p.package_name (on_bits p) old new cause is
-
-pub package_row : (p : Time) (old new : Meaning) (cause : Cause) → IsTrueOf (time p) old new cause → PackageRow p old cause
-package_row p old new cause is = bits.package_row (time p) Then p.package_name (on_bits p) old new cause is
-
-pub bits_row : (p : Time) (old new : Meaning) (cause : Cause) → IsTrueOf (time p) old new cause → BitsRow p old cause
-bits_row p old new cause is = bits.bits_row (time p) Then p.package_name (on_bits p) old new cause is
-
+-- ---- the row
 pub delays_row : (p : Time) (old new : Meaning) (cause : Cause) → IsTrueOf (time p) old new cause → DelaysRow p old cause
 delays_row p old new cause is line =
     comes (time p) old new cause (λ c. c ≡ BadDelays line) (HasBadDelays p.package_name line) (lawful p) is

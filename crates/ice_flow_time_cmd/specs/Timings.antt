@@ -37,7 +37,7 @@ DelaysStand delays_text bonded = stands_by (delays_of delays_text) delays_cause 
 
 -- first the chip text is looked at, then the text of bits, then the package, then the bits, and then the delays
 abbrev pub StandsForTime : List ℕ → List (List ℕ) → Cause → Type 0
-StandsForTime name texts = bits.Stands (DelaysStand (text_at texts 3)) name texts
+StandsForTime name texts = bits.TextsStand (DelaysStand (text_at texts 3)) name texts
 
 -- the bits have no fault, and this line of the text of delays is the first that is refused, or it is 0 and a delay is missing
 pub record HasBadDelays (name : List ℕ) (line : ℕ) (texts : List (List ℕ)) : Type 0 where

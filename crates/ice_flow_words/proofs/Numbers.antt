@@ -5,7 +5,7 @@ use Rattle.clap.specs.Values.{IsUnsignedIn}
 use Rattle.clap.specs.ValueTests.{is_unsigned_in}
 use Rattle.clap.specs.declared.builder.value_parser.ValueParser.TheVariants.{Unsigned}
 use Rattle.clap.proofs.ValueTestLemmas.{Accepts-accepts, accepts-Accepts}
-use Rattle.ice_flow_words.specs.Requests.{number_in}
+use Rattle.ice_flow_words.specs.Reading.{number_in}
 
 -- `parse` reads a number in the text
 abbrev pub Reads : List ℕ → Type 0

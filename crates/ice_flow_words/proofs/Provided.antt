@@ -23,7 +23,7 @@ use Rattle.clap.proofs.WalkLemmas.{both}
 use Rattle.clap.proofs.SimpleLemmas.{is_nil}
 use Rattle.std.proofs.lemmas.Bool.{or_right}
 use Rattle.ice_flow_words.specs.Command.{command, most_number, most_rounds, most_workers, build_command, back_command, play_net_command, play_bits_command, time_command, sample_command}
-use Rattle.ice_flow_words.specs.Requests.{◌>>=◌, asked_in, asked_of, build_of, back_of, play_net_of, play_bits_of, time_of, sample_of, workers_of, number_in, number_of, is_taken, request_of}
+use Rattle.ice_flow_words.specs.Reading.{◌>>=◌, asked_in, asked_of, build_of, back_of, play_net_of, play_bits_of, time_of, sample_of, workers_of, number_in, number_of, is_taken, request_of}
 use Rattle.ice_flow_words.proofs.Kept.{Each, Good, IsFilled, IsKnown, is_once, Passes, all_good, passes, found_in, no_fault, no_kind}
 
 -- ---- the rows that are there

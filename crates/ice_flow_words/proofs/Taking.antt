@@ -7,7 +7,7 @@ use Rattle.clap.specs.declared.error.kind.ErrorKind.TheVariants.{OutOfMemory}
 use Rattle.clap.specs.declared.parser.matches.ArgMatches.{ArgMatches}
 use Rattle.ice_flow_words.specs.Command.{command}
 use Rattle.clap.specs.Walk.{is_empty}
-use Rattle.ice_flow_words.specs.Requests.{is_taken}
+use Rattle.ice_flow_words.specs.Reading.{is_taken}
 use Rattle.ice_flow_words.proofs.Kept.{not_empty}
 
 is_free : is_simple_and_free command ≡ true

@@ -1,5 +1,6 @@
 pub mod Arguments
 pub mod Command
 pub mod Requests
+pub mod Reading
 pub mod Views
 pub mod Examples

@@ -104,7 +104,8 @@ fn with_arguments<'a>(
     arguments: &[Argument<'a>],
 ) -> Result<Command<'a>, AllocError>
     requires local { (fields_of command).has_globals ≡ false }
-    ensures app { IfOk result (λ c. app_of c ≡ with_arguments (app_of command.entry) arguments.now) }
+    ensures app { IfOk result (λ c.
+        app_of c ≡ with_arguments (app_of command.entry) arguments.now) }
     ensures local { IfOk result (λ c. (fields_of c).has_globals ≡ false) }
 {
     let mut command = command;
@@ -120,7 +121,9 @@ fn with_subcommand<'a>(
     sub: Result<Command<'a>, AllocError>,
 ) -> Result<Command<'a>, AllocError>
     requires local { IfOk sub (λ c. (fields_of c).has_globals ≡ false) }
-    ensures { (app : App) (shape : Shape) → app_of command.entry ≡ app → IfOk sub.entry (λ c. app_of c ≡ alone shape) → IfOk result (λ c. app_of c ≡ with_subcommand app shape) }
+    ensures { (app : App) (shape : Shape) → app_of command.entry ≡ app
+        → IfOk sub.entry (λ c. app_of c ≡ alone shape)
+        → IfOk result (λ c. app_of c ≡ with_subcommand app shape) }
 {
     command.subcommand(sub?)
 }

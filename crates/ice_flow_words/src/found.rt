@@ -1,7 +1,7 @@
 //! What `clap` found for a subcommand, read as its request.
 ghost use Rattle.std.specs.Prelude.{◌≡◌, ◌≤◌, IfSome, option_map};
 ghost use Rattle.clap.specs.Words.{first_of, found_of, rows_of, subcommand_rows_of};
-ghost use Rattle.ice_flow_words.specs.Requests.{number_in, number_of, workers_of, build_of, back_of, play_net_of, play_bits_of, time_of, sample_of, asked_of, asked_in};
+ghost use Rattle.ice_flow_words.specs.Reading.{number_in, number_of, workers_of, build_of, back_of, play_net_of, play_bits_of, time_of, sample_of, asked_of, asked_in};
 ghost use Rattle.ice_flow_words.specs.Views.{build_view, back_view, net_view, bits_view, time_view, sample_view, request_view, IsInLimits};
 ghost use Rattle.ice_flow_words.specs.Command.{most_workers};
 
@@ -156,7 +156,8 @@ fn sample_of(found: &ArgMatches<'_>) -> Option<SampleRequest>
 
 // The request of a subcommand.
 fn asked_of<'a>(name: &str, found: &ArgMatches<'a>) -> Option<Request<'a>>
-    ensures value { option_map request_view result ≡ asked_of name.now (rows_of (found_of found.now)) }
+    ensures value { option_map request_view result
+        ≡ asked_of name.now (rows_of (found_of found.now)) }
     ensures range { IfSome result IsInLimits }
 {
     if name == "build" {

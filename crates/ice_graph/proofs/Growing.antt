@@ -1,11 +1,12 @@
 -- The boxes of wires grow by one edge after another, and the greatest half perimeter with them.
-use Rattle.std.proofs.Common.{◌≡◌, ◌≢◌, ℕ, ◌+◌, ◌<◌, List, Option, Some, None, length, slice_get, slice_set, refl, sym, ap, ◌∙◌, subst, arith, inl, inr, ◌⊎◌, get_or-set_same, get_or-set_other, length-set}
-use Rattle.std.specs.Prelude.{max}
-use Rattle.std.proofs.lemmas.Bool.{cases_eq}
+use Rattle.std.proofs.Common.{◌≡◌, ◌≢◌, ℕ, true, nat_le, ◌+◌, ◌<◌, ◌≤◌, List, Option, Some, None, length, slice_get, slice_set, refl, sym, ap, ◌∙◌, subst, arith, rules, tests, inl, inr, ◌⊎◌, get_or-set_same, get_or-set_other, length-set}
+use Rattle.std.specs.Prelude.{◌&&◌, max, min}
+use Rattle.std.proofs.lemmas.Bool.{and_parts, cases_eq}
+use Rattle.std.proofs.lemmas.List.{set-get_or}
 use Rattle.ice_base.specs.declared.number.TileAt.{TileAt}
 use Rattle.ice_graph.specs.declared.edge.Edge.{Edge}
 use Rattle.ice_graph.specs.declared.extent.Extent.{Extent}
-use Rattle.ice_graph.specs.Boxes.{box_at, grown, grown_by, HoldsTile, HoldsAll, LiesIn, Touches, IsBoxOf, AreBoxesUpTo, IsSpreadUpTo, box_of, half_perimeter}
+use Rattle.ice_graph.specs.Boxes.{box_at, holds, grown, grown_by, HoldsTile, HoldsAll, LiesIn, Touches, IsBoxOf, AreBoxesUpTo, IsSpreadUpTo, box_of, half_perimeter}
 
 grown_holds : (b : Extent) (tile t : TileAt) → HoldsTile b t → HoldsTile (grown b tile) t
 grown_holds b tile t h = (omega (arith, h.0), omega (arith, h.1), omega (arith, h.2), omega (arith, h.3))
@@ -15,6 +16,33 @@ grown_new b tile = (omega arith, omega arith, omega arith, omega arith)
 
 grown_least : (b c : Extent) (tile : TileAt) → LiesIn b c → HoldsTile c tile → LiesIn (grown b tile) c
 grown_least b c tile h k = (omega (arith, h.0, k.0), omega (arith, h.1, k.1), omega (arith, h.2, k.2), omega (arith, h.3, k.3))
+
+-- a box that holds the tile stays as it is
+grown_same : (b : Extent) (tile : TileAt) → holds b tile ≡ true → grown b tile ≡ b
+grown_same b tile e =
+    let three = and_parts (nat_le b.west tile.x && nat_le tile.x b.east && nat_le b.south tile.y) (nat_le tile.y b.north) e in
+    let two = and_parts (nat_le b.west tile.x && nat_le tile.x b.east) (nat_le b.south tile.y) three.0 in
+    let one = and_parts (nat_le b.west tile.x) (nat_le tile.x b.east) two.0 in
+    let low_x : nat_le b.west tile.x ≡ true = one.0 in
+    let high_x : nat_le tile.x b.east ≡ true = one.1 in
+    let low_y : nat_le b.south tile.y ≡ true = two.1 in
+    let high_y : nat_le tile.y b.north ≡ true = three.1 in
+    let w : b.west ≤ tile.x = search (rules, tests) in
+    let e : tile.x ≤ b.east = search (rules, tests) in
+    let s : b.south ≤ tile.y = search (rules, tests) in
+    let n : tile.y ≤ b.north = search (rules, tests) in
+    let west : min b.west tile.x ≡ b.west = omega (arith, w) in
+    let east : max b.east tile.x ≡ b.east = omega (arith, e) in
+    let south : min b.south tile.y ≡ b.south = omega (arith, s) in
+    let north : max b.north tile.y ≡ b.north = omega (arith, n) in
+    λ i. record { west = west i; east = east i; south = south i; north = north i }
+
+pub box_stays : (boxes : List (Option Extent)) (w : ℕ) (b : Extent) (tile : TileAt) → box_of boxes w ≡ Some b → holds b tile ≡ true → boxes ≡ slice_set boxes w (Some (grown_by (box_of boxes w) tile))
+box_stays boxes w b tile is held =
+    sym (ap (λ o. slice_set boxes w (Some (grown_by o tile))) is
+    ∙ ap (λ (x : Extent). slice_set boxes w (Some x)) (grown_same b tile held)
+    ∙ ap (slice_set boxes w) (sym is)
+    ∙ set-get_or boxes w None)
 
 one_tile : (places : List TileAt) (n k : ℕ) (t tile : TileAt) → slice_get places k ≡ Some t → slice_get places n ≡ Some tile → k ≡ n → t ≡ tile
 one_tile places n k t tile a b same = let e : Some t ≡ Some tile = sym a ∙ (ap (λ i. slice_get places i) same ∙ b) in (cc)

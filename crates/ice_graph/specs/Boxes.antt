@@ -1,5 +1,5 @@
 -- Boxes around wires, and how far two of them are apart.
-use Rattle.std.specs.Prelude.{◌≡◌, ℕ, ◌+◌, ◌-◌, ◌/◌, ◌≤◌, ◌<◌, ◌⊎◌, min, max, eqb, List, Option, Some, None, length, slice_get, slice_index_or, if◌then◌else◌}
+use Rattle.std.specs.Prelude.{◌≡◌, ℕ, Bool, nat_le, ◌&&◌, ◌+◌, ◌-◌, ◌/◌, ◌≤◌, ◌<◌, ◌⊎◌, min, max, eqb, List, Option, Some, None, length, slice_get, slice_index_or, if◌then◌else◌}
 use Rattle.ice_base.specs.declared.number.TileAt.{TileAt}
 use Rattle.ice_graph.specs.declared.edge.Edge.{Edge}
 use Rattle.ice_graph.specs.declared.extent.Extent.{Extent}
@@ -7,6 +7,10 @@ use Rattle.ice_graph.specs.declared.extent.Extent.{Extent}
 -- the box of one tile
 abbrev pub box_at : TileAt → Extent
 box_at tile = record { west = tile.x; east = tile.x; south = tile.y; north = tile.y }
+
+-- the box holds the tile already
+abbrev pub holds : Extent → TileAt → Bool
+holds b tile = nat_le b.west tile.x && nat_le tile.x b.east && nat_le b.south tile.y && nat_le tile.y b.north
 
 -- the smallest box that holds a box and a tile
 abbrev pub grown : Extent → TileAt → Extent

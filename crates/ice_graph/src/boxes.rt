@@ -16,7 +16,12 @@ fn grow(boxes: &mut [Option<Extent>], wire: usize, tile: TileAt)
     ensures { boxes.new ≡ slice_set boxes.old wire (Some (grown_by (box_of boxes.old wire) tile)) }
 {
     boxes[wire] = Some(match boxes[wire] {
-        Some(extent) => extent.grown(tile),
+        Some(extent) => {
+            if extent.holds(tile) {
+                return;
+            }
+            extent.grown(tile)
+        }
         None => Extent::of(tile),
     });
 }

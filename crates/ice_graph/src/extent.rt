@@ -1,6 +1,6 @@
 //! Boxes of tiles.
 ghost use Rattle.std.specs.Prelude.{◌≡◌, ◌+◌, ◌-◌, ◌≤◌};
-ghost use Rattle.ice_graph.specs.Boxes.{box_at, grown, half_perimeter, gap, distance};
+ghost use Rattle.ice_graph.specs.Boxes.{box_at, holds, grown, half_perimeter, gap, distance};
 
 use ice_base::TileAt;
 
@@ -28,6 +28,13 @@ impl Extent {
             south: tile.y,
             north: tile.y,
         }
+    }
+
+    // Whether the box holds the tile.
+    pub fn holds(self, tile: TileAt) -> bool
+        ensures { result ≡ holds self tile }
+    {
+        self.west <= tile.x && tile.x <= self.east && self.south <= tile.y && tile.y <= self.north
     }
 
     // The smallest box that holds this one and the tile.

@@ -10,7 +10,7 @@ ghost use Rattle.ice_graph.specs.Nearest.{apart, nearest, nearest_from, bound_of
 use crate::boxes::{boxes_of, spread_of};
 use crate::edge::{Edge, End};
 use crate::extent::{Extent, distance};
-use crate::index::Index;
+use crate::index::EdgeIndex;
 use crate::table::Hops;
 use ice_base::{NoMemory, RowNo, TileAt, WireNo};
 use std::alloc::Global;
@@ -23,8 +23,8 @@ use std::marker::Model;
 pub struct Graph {
     wires: u32,
     edges: Vec<Edge>,
-    into: Index,
-    from: Index,
+    into: EdgeIndex,
+    from: EdgeIndex,
     boxes: Vec<Option<Extent>>,
     spread: u32,
     hops: Hops,
@@ -98,7 +98,8 @@ impl Graph {
         requires rise { RowsRise edges.items }
         ensures wires { IfOk result (λ graph. graph.wires ≡ wires) }
         ensures edges { IfOk result (λ graph. graph.edges ≡ edges.items) }
-        ensures places { IfOk result (λ graph. ArePlaces graph (replicate (length edges.items) (record { x = 0; y = 0 }))) }
+        ensures places { IfOk result (λ graph.
+            ArePlaces graph (replicate (length edges.items) (record { x = 0; y = 0 }))) }
     {
         let places = vec![in alloc; TileAt { x: 0, y: 0 }; edges.len()]?;
         Graph::placed(alloc, wires, edges, places)
@@ -120,8 +121,8 @@ impl Graph {
         ensures places { IfOk result (λ graph. ArePlaces graph places.items) }
     {
         let _number = number_of(&edges);
-        let into = Index::new(alloc, End::Target, wires, &edges)?;
-        let from = Index::new(alloc, End::Source, wires, &edges)?;
+        let into = EdgeIndex::new(alloc, End::Target, wires, &edges)?;
+        let from = EdgeIndex::new(alloc, End::Source, wires, &edges)?;
         let boxes = boxes_of(alloc, wires, &edges, &places)?;
         let spread = spread_of(wires, &edges, &boxes);
         Ok(Graph {
@@ -220,7 +221,8 @@ impl Graph {
     // How far the nearest of these targets is.
     fn nearest(&self, wire: WireNo, targets: &[WireNo]) -> u32
         requires wire { wire.0 < self.now.wires }
-        requires targets { (k : ℕ) (t : Wire) → slice_get targets.now k ≡ Some t → t.0 < self.now.wires }
+        requires targets { (k : ℕ) (t : Wire) → slice_get targets.now k ≡ Some t
+            → t.0 < self.now.wires }
         requires some { 0 < length targets.now }
         ensures nearest { result ≡ nearest self.now targets.now wire.0 }
         ensures small { result ≤ 131071 }
@@ -237,7 +239,8 @@ impl Graph {
     #[tactic(auto, using(crate::proofs::Nearest::least_by))]
     pub fn least_bound(&self, wire: WireNo, targets: &[WireNo]) -> u64
         requires wire { wire.0 < self.now.wires }
-        requires targets { (k : ℕ) (t : Wire) → slice_get targets.now k ≡ Some t → t.0 < self.now.wires }
+        requires targets { (k : ℕ) (t : Wire) → slice_get targets.now k ≡ Some t
+            → t.0 < self.now.wires }
         requires some { 0 < length targets.now }
         ensures bound { result ≡ least_bound self.now targets.now wire.0 }
         ensures small { result ≤ 131071 }

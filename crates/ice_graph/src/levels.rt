@@ -31,8 +31,10 @@ fn home_of(set: Option<u8>, first: usize) -> u64
 /// Of each wire the bit of its set, if that is one of the 64 from this one on. It answers `NoMemory` where it finds none.
 pub fn homes_of(alloc: Global, sets: &[Option<u8>], first: usize) -> Result<Vec<u64>, NoMemory>
     ensures long { IfOk result (λ homes. length homes.items ≡ length sets.now) }
-    ensures homes { IfOk result (λ homes. (w b : ℕ) → b < 64 → set_at sets.now w ≡ Some (first + b) → Reaches homes.items w b) }
-    ensures back { IfOk result (λ homes. (w b : ℕ) → Reaches homes.items w b → set_at sets.now w ≡ Some (first + b)) }
+    ensures homes { IfOk result (λ homes.
+        (w b : ℕ) → b < 64 → set_at sets.now w ≡ Some (first + b) → Reaches homes.items w b) }
+    ensures back { IfOk result (λ homes.
+        (w b : ℕ) → Reaches homes.items w b → set_at sets.now w ≡ Some (first + b)) }
 {
     let mut homes = Vec::with_capacity(alloc, sets.len())?;
     for set in sets {
@@ -73,7 +75,8 @@ fn is_same(level: &[u64], other: &[u64]) -> bool
 /// answers `NoMemory` where it finds none.
 pub fn levels_of(alloc: Global, edges: &[Edge], homes: Vec<u64>) -> Result<Vec<Vec<u64>>, NoMemory>
     requires { AreBetween (length homes.items) edges.now }
-    ensures levels { IfOk result (λ levels. 0 < length levels.items → AreLevels edges.now homes.items (lists_of levels.items)) }
+    ensures levels { IfOk result (λ levels.
+        0 < length levels.items → AreLevels edges.now homes.items (lists_of levels.items)) }
     ensures all { IfOk result (λ levels. AreAll edges.now (lists_of levels.items)) }
 {
     let mut levels = Vec::new(alloc);
@@ -101,7 +104,8 @@ fn reaches(level: &[u64], wire: usize, bit: u32) -> bool
 // The number of the first level of which the wire reaches the set of the bit.
 fn first_level(levels: &[Vec<u64>], wire: usize, bit: u32) -> u8
     requires few { length levels.now ≤ 255 }
-    requires wire { (k : ℕ) (level : List ℕ) → slice_get (lists_of levels.now) k ≡ Some level → wire < length level }
+    requires wire { (k : ℕ) (level : List ℕ) → slice_get (lists_of levels.now) k ≡ Some level
+        → wire < length level }
     requires bit { bit < 64 }
     ensures { IsFirstLevel (lists_of levels.now) wire bit result }
 {
@@ -121,7 +125,8 @@ pub fn column_of(
     bit: u32,
 ) -> Result<Vec<u8>, NoMemory>
     requires few { length levels.now ≤ 255 }
-    requires long { (k : ℕ) (level : List ℕ) → slice_get (lists_of levels.now) k ≡ Some level → length level ≡ wires }
+    requires long { (k : ℕ) (level : List ℕ) → slice_get (lists_of levels.now) k ≡ Some level
+        → length level ≡ wires }
     requires bit { bit < 64 }
     ensures { IfOk result (λ column. IsColumnOf (lists_of levels.now) wires bit column.items) }
 {

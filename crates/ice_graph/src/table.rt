@@ -95,7 +95,8 @@ impl Hops {
     // The set in which all the targets are, if there is one.
     fn set_of_all(&self, targets: &[WireNo]) -> Option<u8>
         requires { 0 < length targets.now }
-        ensures { IfSome result (λ s. (k : ℕ) (t : Wire) → slice_get targets.now k ≡ Some t → set_at self.now.sets.items t.0 ≡ Some s) }
+        ensures { IfSome result (λ s. (k : ℕ) (t : Wire) → slice_get targets.now k ≡ Some t
+            → set_at self.now.sets.items t.0 ≡ Some s) }
     {
         let set = self.set_of(targets[0])?;
         for target in targets {
@@ -110,7 +111,8 @@ impl Hops {
     /// It is empty, and says nothing, where they are not all in one set.
     pub fn to(&self, targets: &[WireNo]) -> &[u8]
         requires { 0 < length targets.now }
-        ensures { (edges : List GraphEdge) → IsTable edges self.now → AreHops edges targets.now result.now }
+        ensures { (edges : List GraphEdge) → IsTable edges self.now
+            → AreHops edges targets.now result.now }
     {
         let Some(set) = self.set_of_all(targets) else {
             return &[];

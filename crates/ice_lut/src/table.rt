@@ -56,7 +56,8 @@ fn table_with(entries: &[bool; 16]) -> u16
 pub fn with_constant(table: u16, input: u8, level: bool) -> u16
     requires { input < 4 }
     ensures table { result ≡ with_constant table input level }
-    ensures gives { (xs : List Bool) → length xs ≡ 4 → table_bit result (number_of xs) ≡ table_bit table (number_of (slice_set xs input level)) }
+    ensures gives { (xs : List Bool) → length xs ≡ 4
+        → table_bit result (number_of xs) ≡ table_bit table (number_of (slice_set xs input level)) }
 {
     let mut entries = [false; 16];
     for j in 0..16 {
@@ -94,7 +95,8 @@ fn levels_from(levels: [bool; 4], from: [Option<u8>; 4]) -> [bool; 4]
 /// that is None.
 pub fn rewired(table: u16, from: [Option<u8>; 4]) -> u16
     ensures table { result ≡ rewired table from }
-    ensures gives { (xs : List Bool) → length xs ≡ 4 → table_bit result (number_of xs) ≡ table_bit table (number_of (levels_from from xs)) }
+    ensures gives { (xs : List Bool) → length xs ≡ 4
+        → table_bit result (number_of xs) ≡ table_bit table (number_of (levels_from from xs)) }
 {
     let mut entries = [false; 16];
     for j in 0..16 {
@@ -115,7 +117,9 @@ fn inputs_of(order: [u8; 4]) -> [Option<u8>; 4]
 /// old one.
 pub fn permuted(table: u16, order: [u8; 4]) -> u16
     ensures table { result ≡ permuted table order }
-    ensures gives { (xs : List Bool) → length xs ≡ 4 → table_bit result (number_of xs) ≡ table_bit table (number_of (map (λ k. slice_index_or xs k false) order)) }
+    ensures gives { (xs : List Bool) → length xs ≡ 4
+        → table_bit result (number_of xs)
+        ≡ table_bit table (number_of (map (λ k. slice_index_or xs k false) order)) }
 {
     rewired(table, inputs_of(order))
 }
@@ -124,7 +128,8 @@ pub fn permuted(table: u16, order: [u8; 4]) -> u16
 pub fn passing(input: u8) -> u16
     requires { input < 4 }
     ensures table { result ≡ passing input }
-    ensures gives { (xs : List Bool) → length xs ≡ 4 → table_bit result (number_of xs) ≡ slice_index_or xs input false }
+    ensures gives { (xs : List Bool) → length xs ≡ 4
+        → table_bit result (number_of xs) ≡ slice_index_or xs input false }
 {
     match input {
         0 => 0xaaaa,
@@ -136,8 +141,10 @@ pub fn passing(input: u8) -> u16
 
 /// The bits of a logic cell that write a table, and that enable neither a carry nor a flip-flop.
 pub fn bits_of(table: u16) -> [bool; 20]
-    ensures entries { map (λ place. slice_index_or result place false) table_places ≡ map (table_bit table) (range_with_len 0 16) }
-    ensures others { map (λ place. slice_index_or result place false) other_places ≡ replicate 4 false }
+    ensures entries { map (λ place. slice_index_or result place false) table_places
+        ≡ map (table_bit table) (range_with_len 0 16) }
+    ensures others { map (λ place. slice_index_or result place false) other_places
+        ≡ replicate 4 false }
 {
     [
         digit(table, 15),

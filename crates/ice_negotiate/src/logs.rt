@@ -60,7 +60,8 @@ fn moved_trees(
     moved: &[NetNo],
     trees: &[Tree],
 ) -> Result<Vec<(NetNo, Tree)>, NoMemory>
-    requires { (k : ℕ) (net : Number) → slice_get moved.now k ≡ Some net → net.0 < length trees.now }
+    requires { (k : ℕ) (net : Number) → slice_get moved.now k ≡ Some net
+        → net.0 < length trees.now }
     ensures { IfOk result (λ list. AreTreesOf trees.now moved.now list.items) }
 {
     let mut list = Vec::new(alloc);
@@ -97,8 +98,10 @@ pub fn log_of(
 ) -> Result<RoundLog, NoMemory>
     requires history { length prices.now.history.items ≤ MOST_WIRES }
     requires counts { length counts.now ≤ MOST_WIRES }
-    requires moved { (k : ℕ) (net : Number) → slice_get moved.now k ≡ Some net → net.0 < length trees.now }
-    ensures { IfOk result (IsLog (past_of prices.now.round prices.now.history.items moved.now trees.now counts.now)) }
+    requires moved { (k : ℕ) (net : Number) → slice_get moved.now k ≡ Some net
+        → net.0 < length trees.now }
+    ensures { IfOk result
+        (IsLog (past_of prices.now.round prices.now.history.items moved.now trees.now counts.now)) }
 {
     Ok(RoundLog {
         round: prices.round,

@@ -86,7 +86,8 @@ fn first_prices(alloc: Global, graph: &Graph, trees: &[Tree]) -> Result<RoundPri
 fn first_logs(alloc: Global, kept: &[Kept], trees: &[Tree]) -> Result<Vec<RoundLog>, NoMemory>
     requires few { length kept.now ≤ MOST_NETS }
     requires begun { BeginsWith (Some (wholes kept.now)) trees.now }
-    ensures { IfOk result (λ logs. (log : Log) × IsOpeningLog (wholes kept.now) log × (logs.items ≡ log ∷ [])) }
+    ensures { IfOk result (λ logs.
+        (log : Log) × IsOpeningLog (wholes kept.now) log × (logs.items ≡ log ∷ [])) }
 {
     let mut logs = Vec::new(alloc);
     let log = opening_log(alloc, kept, trees)?;
@@ -146,10 +147,14 @@ fn play_next<G: Gate + Sync, R: Threads + Sync>(
     requires workers { (1 ≤ vec_len kits) × (vec_len kits ≤ 8) }
     requires kits { All (IsKitOf graph.now) kits.items }
     ensures played { IfOk result (λ r. IsPlayed graph.now nets.now round state.new r.counts) }
-    ensures after { IfOk result (λ r. (opening : Opening) → IsBefore graph.now nets.now opening round state.old → IsAfter graph.now nets.now opening round state.new r.counts) }
+    ensures after { IfOk result (λ r.
+        (opening : Opening) → IsBefore graph.now nets.now opening round state.old
+        → IsAfter graph.now nets.now opening round state.new r.counts) }
     ensures many { IfOk result (λ r. vec_len r.kits ≡ vec_len kits) }
     ensures kits { IfOk result (λ r. All (IsKitOf graph.now) r.kits.items) }
-    ensures stop { IfErr result (λ fault. (opening : Opening) (permitted : ℕ) → IsBefore graph.now nets.now opening round state.old → IsFaultFrom graph.now nets.now opening permitted fault) }
+    ensures stop { IfErr result (λ fault.
+        (opening : Opening) (permitted : ℕ) → IsBefore graph.now nets.now opening round state.old
+        → IsFaultFrom graph.now nets.now opening permitted fault) }
 {
     state.prices.round = round + 1;
     let played = match play(
@@ -195,7 +200,9 @@ fn prepare<R: Threads + Sync>(
     requires overused { (w : ℕ) × (1 < slice_index counts.closed w) }
     requires workers { (1 ≤ workers) × (workers ≤ 8) }
     ensures ready { OnOk result (IsReady graph.now nets.now (round + 1) state.new) }
-    ensures before { OnOk result ((opening : Opening) → IsAfter graph.now nets.now opening round state.old counts → IsBefore graph.now nets.now opening (round + 1) state.new) }
+    ensures before { OnOk result
+        ((opening : Opening) → IsAfter graph.now nets.now opening round state.old counts
+        → IsBefore graph.now nets.now opening (round + 1) state.new) }
 {
     let (_wires, _nets) = (graph.wires(), nets.len());
     raise(rt, alloc, &mut state.prices.history, &counts, workers)?;
@@ -209,7 +216,8 @@ fn prepare<R: Threads + Sync>(
 fn routed(state: State, counts: Counts) -> Result<Routed, NoMemory>
     ensures trees { IfOk result (λ routed. routed.trees.items ≡ state.trees.items) }
     ensures logs { IfOk result (λ routed. routed.logs.items ≡ state.logs.items) }
-    ensures tallies { IfOk result (λ routed. routed.tallies.items ≡ state.tallies.items ++ counts ∷ []) }
+    ensures tallies { IfOk result (λ routed.
+        routed.tallies.items ≡ state.tallies.items ++ counts ∷ []) }
 {
     let State {
         prices: _,
@@ -243,8 +251,12 @@ fn play_all<G: Gate + Sync, R: Threads + Sync>(
     requires few { length nets.now ≤ MOST_NETS }
     requires nets { AreNets graph.now nets.now }
     requires ready { IsReady graph.now nets.now 0 state }
-    ensures routed { IfOk result (λ routed. (opening : Opening) → IsBefore graph.now nets.now opening 0 state → AreRoutedFrom graph.now nets.now opening rounds routed) }
-    ensures fault { IfErr result (λ fault. (opening : Opening) → IsBefore graph.now nets.now opening 0 state → IsFaultFrom graph.now nets.now opening rounds fault) }
+    ensures routed { IfOk result (λ routed.
+        (opening : Opening) → IsBefore graph.now nets.now opening 0 state
+        → AreRoutedFrom graph.now nets.now opening rounds routed) }
+    ensures fault { IfErr result (λ fault.
+        (opening : Opening) → IsBefore graph.now nets.now opening 0 state
+        → IsFaultFrom graph.now nets.now opening rounds fault) }
 {
     let mut kits = kits_of(alloc, graph, workers)?;
     for round in 0..rounds {
@@ -325,7 +337,8 @@ pub fn negotiate_from<G: Gate + Sync, R: Threads + Sync>(
     requires few { length nets.now ≤ MOST_NETS }
     requires nets { AreNets graph.now nets.now }
     requires kept { Fits graph.now nets.now kept.now }
-    ensures routed { IfOk result (AreRoutedFrom graph.now nets.now (Some (wholes kept.now)) rounds) }
+    ensures routed { IfOk result
+        (AreRoutedFrom graph.now nets.now (Some (wholes kept.now)) rounds) }
     ensures fault { IfErr result (IsFaultFrom graph.now nets.now (Some (wholes kept.now)) rounds) }
 {
     let state = start_from(alloc, graph, nets, kept)?;

@@ -15,8 +15,10 @@ use std::alloc::Global;
 
 // Appends the wires that the edges enter, and their rows.
 fn extend(tree: &mut Tree, edges: &[Edge]) -> Result<(), NoMemory>
-    ensures wires { OnOk result (tree.new.wires.items ≡ tree.old.wires.items ++ map (λ (e : GraphEdge). e.to) edges.now) }
-    ensures rows { OnOk result (tree.new.rows.items ≡ tree.old.rows.items ++ map (λ (e : GraphEdge). e.row) edges.now) }
+    ensures wires { OnOk result
+        (tree.new.wires.items ≡ tree.old.wires.items ++ map (λ (e : GraphEdge). e.to) edges.now) }
+    ensures rows { OnOk result
+        (tree.new.rows.items ≡ tree.old.rows.items ++ map (λ (e : GraphEdge). e.row) edges.now) }
 {
     for edge in edges {
         tree.wires.push(edge.to)?;
@@ -41,7 +43,8 @@ fn join(
     requires rooted { IsRooted graph.now root tree.old.wires.items }
     requires apart { AreOnce tree.old.wires.items }
     requires scratch { IsFor graph.now scratch.old }
-    ensures joined { OnOk result (IsJoined graph.now.edges (price prices.now) (route_of tree.old) targets.now (route_of tree.new)) }
+    ensures joined { OnOk result (IsJoined graph.now.edges (price prices.now) (route_of tree.old)
+        targets.now (route_of tree.new)) }
     ensures rooted { OnOk result (IsRooted graph.now root tree.new.wires.items) }
     ensures apart { OnOk result (AreOnce tree.new.wires.items) }
     ensures reached { OnOk result (IsSinkReached graph.now.edges root targets.now) }
@@ -77,7 +80,8 @@ pub fn tree_of(
     requires root { root.0 < graph.now.wires }
     requires sinks { AreSinks graph.now.wires sinks.now }
     requires scratch { IsFor graph.now scratch.old }
-    ensures tree { IfOk result (λ tree. IsTree graph.now.edges (price prices.now) root sinks.now (route_of tree)) }
+    ensures tree { IfOk result (λ tree.
+        IsTree graph.now.edges (price prices.now) root sinks.now (route_of tree)) }
     ensures rooted { IfOk result (λ tree. IsRooted graph.now root tree.wires.items) }
     ensures apart { IfOk result (λ tree. AreOnce tree.wires.items) }
     ensures reached { OnOk result (AreReached graph.now.edges root sinks.now) }

@@ -22,10 +22,9 @@ use Rattle.ice_negotiate_defs.specs.Trees.{AreOnce, AreSinks}
 use Rattle.ice_negotiate_defs.specs.Rounds.{AreBounded, AreDifferent, AreNets, ArePricesOf, HoldOnce}
 use Rattle.ice_negotiate_defs.proofs.Advancing.{few_others, left_prices}
 use Rattle.ice_negotiate_defs.proofs.Rounding.{count_low}
-use Rattle.ice_worker.specs.Tasks.{AreFor, IsTaskOf, KeepsBounds}
+use Rattle.ice_worker.specs.Tasks.{AreFor, IsTaskOf, KeepsBounds, ArePlayable}
 use Rattle.ice_negotiate_defs.proofs.Wires.{once_times}
 use Rattle.ice_worker.proofs.Working.{wires_at}
-use Rattle.ice_negotiate_round.specs.Jobs.{ArePlayable}
 use Rattle.ice_negotiate_defs.specs.Tallies.{wires_in}
 use Rattle.ice_negotiate_round.specs.Moving.{AreTasksOf, IsTaskFor}
 use Rattle.ice_negotiate_round.proofs.Finishing.{many_olds, tree_at}

@@ -1,26 +1,18 @@
 -- Workers before and after their work.
-use Rattle.std.specs.Prelude.{◌≡◌, ℕ, false, List, [], ◌∷◌, None, Some, length}
+use Rattle.std.specs.Prelude.{◌≡◌, ℕ, false, List, [], ◌∷◌, None, Some}
 use Rattle.std.specs.List.{All}
 use Rattle.ice_graph.specs.Network.{Network}
 use Rattle.ice_core.specs.declared.round_prices.RoundPrices.{RoundPrices}
 use Rattle.ice_core.specs.declared.task.Task.{Task}
-use Rattle.ice_core.specs.Routes.{old_wires, IsOpening}
+use Rattle.ice_core.specs.Routes.{old_wires}
 use Rattle.ice_words.specs.declared.view.Part.{Part}
 use Rattle.ice_words.specs.declared.view.View.{View}
 use Rattle.ice_words.specs.Views.{no_part, claim_of}
 use Rattle.ice_words.specs.Grips.{Board, IsHandOf}
 use Rattle.ice_worker.specs.declared.stop.WorkStop.{WorkStop}
-use Rattle.ice_worker.specs.Tasks.{IsMade, IsTaskOf, KeepsBounds}
+use Rattle.ice_worker.specs.Tasks.{IsMade, ArePlayable}
 use Rattle.ice_worker.specs.Kits.{IsKitOf, Falls, Stops, claims_of, done_part, made_by}
 use Rattle.ice_negotiate_round.specs.declared.jobs.Job.{Job}
-
--- the tasks can be done in the prices of the round, whose counts are those that the tasks' old routes stand in
-pub record ArePlayable (graph : Network) (r : RoundPrices) (tasks : List Task) : Type 0 where
-  pub histories : length r.history.items ≡ graph.wires
-  pub counts : length r.counts.items ≡ graph.wires
-  pub opening : IsOpening (old_wires tasks) r.counts.items
-  pub wires : All (IsTaskOf graph) tasks
-  pub bounded : All (KeepsBounds r) tasks
 
 -- the words are those of these tasks in the prices of the round
 pub record AreStarted (graph : Network) (r : RoundPrices) (tasks : List Task) (board : Board) : Type 0 where

@@ -39,7 +39,8 @@ pub fn jobs_of(
     requires kits { All (IsKitOf graph.now) kits.items }
     ensures of { IsHandOf words.now main.new }
     ensures many { IfOk result (λ v. vec_len v ≡ vec_len kits) }
-    ensures main { IfOk result (λ v. main.new.view ≡ main_view words.now (vec_len v) (vec_len v) []) }
+    ensures main { IfOk result (λ v.
+        main.new.view ≡ main_view words.now (vec_len v) (vec_len v) []) }
     ensures jobs { IfOk result (λ v. All (IsWaiting graph.now words.now) v.items) }
 {
     let _graph = graph;
@@ -106,7 +107,8 @@ pub fn run_all<G: Gate + Sync, R: Threads + Sync>(
     requires some_of { 1 ≤ length jobs.old }
     requires jobs { All (IsWaiting graph.now words.now) jobs.old }
     requires started { AreStarted graph.now prices.now tasks.now words.now }
-    ensures { (length jobs.new ≡ length jobs.old) × All (HasWorked graph.now prices.now tasks.now words.now) jobs.new }
+    ensures { (length jobs.new ≡ length jobs.old)
+        × All (HasWorked graph.now prices.now tasks.now words.now) jobs.new }
 {
     let threads = threads_of(jobs.len(), tasks.len());
     thread::for_each_mut(
@@ -114,8 +116,10 @@ pub fn run_all<G: Gate + Sync, R: Threads + Sync>(
         jobs,
         threads,
         &|_i: usize, job: &mut Job|
-            requires { IsWaiting graph.now words.now job.now × AreStarted graph.now prices.now tasks.now words.now }
-            ensures { HasWorked graph.entry.now prices.entry.now tasks.entry.now words.entry.now job.exit.now }
+            requires { IsWaiting graph.now words.now job.now
+                × AreStarted graph.now prices.now tasks.now words.now }
+            ensures { HasWorked graph.entry.now prices.entry.now tasks.entry.now
+                words.entry.now job.exit.now }
         { run(alloc, words, graph, prices, tasks, gate, job) },
     );
 }
@@ -144,7 +148,10 @@ fn take_in(
     requires memory { job.stop ≢ Some Memory }
     requires dones { All (IsLeft graph.now prices.now tasks.now words.now.olds) dones.old.items }
     ensures of { IsHandOf words.now main.new }
-    ensures view { (splits out : ℕ) → main.old.view ≡ main_view words.now splits (out + 1) (parts_of words.now.olds dones.old.items) → main.new.view ≡ main_view words.now splits out (parts_of words.now.olds dones.new.items) }
+    ensures view { (splits out : ℕ)
+        → main.old.view
+        ≡ main_view words.now splits (out + 1) (parts_of words.now.olds dones.old.items)
+        → main.new.view ≡ main_view words.now splits out (parts_of words.now.olds dones.new.items) }
     ensures dones { All (IsLeft graph.now prices.now tasks.now words.now.olds) dones.new.items }
     ensures len { vec_len dones.new ≡ vec_len dones.old + 1 }
     ensures room { vec_capacity dones.new ≡ vec_capacity dones.old }
@@ -176,7 +183,8 @@ pub fn gather(
     requires jobs { All (HasWorked graph.now prices.now tasks.now words.now) jobs.items }
     requires none { dones.old.items ≡ [] }
     ensures of { IsHandOf words.now main.new }
-    ensures view { IfSome result (λ _. main.new.view ≡ main_view words.now (vec_len jobs) 0 (parts_of words.now.olds dones.new.items)) }
+    ensures view { IfSome result (λ _. main.new.view
+        ≡ main_view words.now (vec_len jobs) 0 (parts_of words.now.olds dones.new.items)) }
     ensures dones { All (IsLeft graph.now prices.now tasks.now words.now.olds) dones.new.items }
     ensures len { IfSome result (λ _. vec_len dones.new ≡ vec_len jobs) }
 {

@@ -34,7 +34,8 @@ pub struct Round {
 // Puts the new trees of the nets that moved in the place of their old ones.
 fn place(trees: &mut [Tree], moved: &[NetNo], mut news: Vec<Tree>)
     requires long { vec_len news ≡ length moved.now }
-    requires within { (k : ℕ) (number : Number) → slice_get moved.now k ≡ Some number → number.0 < length trees.old }
+    requires within { (k : ℕ) (number : Number) → slice_get moved.now k ≡ Some number
+        → number.0 < length trees.old }
     ensures { trees.new ≡ placed trees.old moved.now news.items }
 {
     while let Some(tree) = news.pop() {
@@ -81,14 +82,18 @@ pub fn play<G: Gate + Sync, R: Threads + Sync>(
     requires counts { IsOccupancy prices.now.counts.items trees.old }
     requires apart { HoldOnce trees.old }
     requires moved { AreDifferent nets.now moved.now }
-    requires bounded { AreBounded graph.now prices.now.round prices.now.history.items prices.now.counts.items }
+    requires bounded { AreBounded graph.now prices.now.round
+        prices.now.history.items prices.now.counts.items }
     requires workers { (1 ≤ vec_len kits) × (vec_len kits ≤ 8) }
     requires kits { All (IsKitOf graph.now) kits.items }
-    ensures done { OnOk result (IsRound graph.now nets.now prices.now.round prices.now.history.items prices.now.counts.items moved.now trees.old trees.new) }
+    ensures done { OnOk result (IsRound graph.now nets.now prices.now.round prices.now.history.items
+        prices.now.counts.items moved.now trees.old trees.new) }
     ensures apart { OnOk result (HoldOnce trees.new) }
-    ensures reached { OnOk result (AreMoversReached graph.now nets.now moved.now (length moved.now)) }
+    ensures reached { OnOk result
+        (AreMoversReached graph.now nets.now moved.now (length moved.now)) }
     ensures opened { IfOk result (λ round. round.counts.opened ≡ prices.now.counts.items) }
-    ensures tally { IfOk result (λ round. IsTally graph.now.wires moved.now trees.old trees.new round.counts) }
+    ensures tally { IfOk result (λ round.
+        IsTally graph.now.wires moved.now trees.old trees.new round.counts) }
     ensures many { IfOk result (λ round. vec_len round.kits ≡ vec_len kits) }
     ensures kits { IfOk result (λ round. All (IsKitOf graph.now) round.kits.items) }
     ensures stop { IfErr result (IsStop graph.now nets.now moved.now) }

@@ -37,7 +37,10 @@ fn place_one(
     requires long { length news.old ≡ length tasks.now }
     requires made { IsMade graph.now prices.now tasks.now made }
     ensures long { length news.new ≡ length news.old }
-    ensures covers { (wanted : ℕ → ℕ) → Covers graph.now prices.now tasks.now (λ t. cond (nat_eq made.0 t) 1 0 + wanted t) news.old → Covers graph.now prices.now tasks.now wanted news.new }
+    ensures covers { (wanted : ℕ → ℕ)
+        → Covers graph.now prices.now tasks.now
+        (λ t. cond (nat_eq made.0 t) 1 0 + wanted t) news.old
+        → Covers graph.now prices.now tasks.now wanted news.new }
 {
     let (_graph, _prices, _tasks) = (graph, prices, tasks);
     let (number, tree) = made;
@@ -55,7 +58,9 @@ fn place_some(
     requires long { length news.old ≡ length tasks.now }
     requires made { All (IsMade graph.now prices.now tasks.now) trees.items }
     ensures long { length news.new ≡ length news.old }
-    ensures covers { (wanted : ℕ → ℕ) → Covers graph.now prices.now tasks.now (λ t. made_at t trees.items + wanted t) news.old → Covers graph.now prices.now tasks.now wanted news.new }
+    ensures covers { (wanted : ℕ → ℕ)
+        → Covers graph.now prices.now tasks.now (λ t. made_at t trees.items + wanted t) news.old
+        → Covers graph.now prices.now tasks.now wanted news.new }
 {
     while let Some(made) = trees.pop() {
         place_one(graph, prices, tasks, news, made);
@@ -72,10 +77,13 @@ pub fn place_all(
     mut dones: Vec<Done>,
 ) -> Result<Vec<Kit>, NoMemory>
     requires long { length news.old ≡ length tasks.now }
-    requires made { All (λ (d : Left). All (IsMade graph.now prices.now tasks.now) (made_by d.kit)) dones.items }
+    requires made { All
+        (λ (d : Left). All (IsMade graph.now prices.now tasks.now) (made_by d.kit)) dones.items }
     requires kits { All (λ (d : Left). IsKitOf graph.now d.kit) dones.items }
     ensures long { length news.new ≡ length news.old }
-    ensures covers { IfOk result (λ _. Covers graph.now prices.now tasks.now (λ t. made_in t dones.items) news.old → Covers graph.now prices.now tasks.now (λ t. 0) news.new) }
+    ensures covers { IfOk result (λ _.
+        Covers graph.now prices.now tasks.now (λ t. made_in t dones.items) news.old
+        → Covers graph.now prices.now tasks.now (λ t. 0) news.new) }
     ensures many { IfOk result (λ kits. vec_len kits ≡ vec_len dones) }
     ensures kits { IfOk result (λ kits. All (IsKitOf graph.now) kits.items) }
 {

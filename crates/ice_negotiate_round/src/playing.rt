@@ -1,9 +1,9 @@
 //! One round, task by task.
 ghost use Rattle.std.specs.Prelude.{◌≡◌, ◌<◌, ◌≤◌, ℕ, length, All, IfOk, IfErr, vec_len};
 ghost use Rattle.ice_words.specs.Grips.{IsHandOf};
-ghost use Rattle.ice_worker.specs.Tasks.{IsMade};
+ghost use Rattle.ice_worker.specs.Tasks.{IsMade, ArePlayable};
 ghost use Rattle.ice_worker.specs.Kits.{IsKitOf, made_by};
-ghost use Rattle.ice_negotiate_round.specs.Jobs.{ArePlayable, AreStarted, HasWorked, IsWaiting, main_view};
+ghost use Rattle.ice_negotiate_round.specs.Jobs.{AreStarted, HasWorked, IsWaiting, main_view};
 ghost use Rattle.ice_negotiate_round.specs.Played.{AreTrees, IsLeft, IsPlayed, IsTaskStop, made_in, parts_of, sooner, soonest};
 ghost use Rattle.ice_negotiate_round.specs.declared.jobs.Done.{Done as Left};
 
@@ -43,7 +43,8 @@ pub fn play_tasks<G: Gate + Sync, R: Threads + Sync>(
     requires playable { ArePlayable graph.now prices.now tasks.now }
     requires workers { (1 ≤ vec_len kits) × (vec_len kits ≤ 8) }
     requires kits { All (IsKitOf graph.now) kits.items }
-    ensures played { IfOk result (λ r. IsPlayed graph.now prices.now tasks.now r.news.items r.counts) }
+    ensures played { IfOk result (λ r.
+        IsPlayed graph.now prices.now tasks.now r.news.items r.counts) }
     ensures many { IfOk result (λ r. vec_len r.kits ≡ vec_len kits) }
     ensures kits { IfOk result (λ r. All (IsKitOf graph.now) r.kits.items) }
     ensures stop { IfErr result (IsTaskStop graph.now tasks.now) }
@@ -90,11 +91,13 @@ fn finish(
     dones: Vec<Done>,
 ) -> Result<Played, WorkStop>
     requires of { IsHandOf words main }
-    requires view { main.view ≡ main_view words (vec_len dones) 0 (parts_of words.olds dones.items) }
+    requires view { main.view
+        ≡ main_view words (vec_len dones) 0 (parts_of words.olds dones.items) }
     requires some_of { 1 ≤ vec_len dones }
     requires dones { All (IsLeft graph.now prices.now tasks.now words.olds) dones.items }
     requires started { AreStarted graph.now prices.now tasks.now words }
-    ensures played { IfOk result (λ r. IsPlayed graph.now prices.now tasks.now r.news.items r.counts) }
+    ensures played { IfOk result (λ r.
+        IsPlayed graph.now prices.now tasks.now r.news.items r.counts) }
     ensures many { IfOk result (λ r. vec_len r.kits ≡ vec_len dones) }
     ensures kits { IfOk result (λ r. All (IsKitOf graph.now) r.kits.items) }
     ensures stop { IfErr result (IsTaskStop graph.now tasks.now) }
@@ -115,9 +118,11 @@ fn placed(
     tasks: &[Task],
     dones: Vec<Done>,
 ) -> Result<(Vec<Tree>, Vec<Kit>), NoMemory>
-    requires made { All (λ (d : Left). All (IsMade graph.now prices.now tasks.now) (made_by d.kit)) dones.items }
+    requires made { All
+        (λ (d : Left). All (IsMade graph.now prices.now tasks.now) (made_by d.kit)) dones.items }
     requires kits { All (λ (d : Left). IsKitOf graph.now d.kit) dones.items }
-    ensures trees { IfOk result (λ r. ((t : ℕ) → t < length tasks.now → 1 ≤ made_in t dones.items) → AreTrees graph.now prices.now tasks.now r.0.items) }
+    ensures trees { IfOk result (λ r. ((t : ℕ) → t < length tasks.now → 1 ≤ made_in t dones.items)
+        → AreTrees graph.now prices.now tasks.now r.0.items) }
     ensures many { IfOk result (λ r. vec_len r.1 ≡ vec_len dones) }
     ensures kits { IfOk result (λ r. All (IsKitOf graph.now) r.1.items) }
 {

@@ -28,7 +28,8 @@ fn hands_of(
     requires main { main.old.view ≡ history_main words.now.histories 0 0 [] }
     requires few { workers ≤ 8 }
     ensures of { IsHandOf words.now main.new }
-    ensures main { IfOk result (λ hands. main.new.view ≡ history_main words.now.histories workers workers []) }
+    ensures main { IfOk result (λ hands.
+        main.new.view ≡ history_main words.now.histories workers workers []) }
     ensures many { IfOk result (λ hands. vec_len hands ≡ workers) }
     ensures hands { IfOk result (λ hands. All (IsIdle words.now) hands.items) }
 {
@@ -66,7 +67,8 @@ fn raise_all<R: Threads + Sync>(
     requires some_of { 1 ≤ length hands.old }
     requires hands { All (IsIdle words.now) hands.old }
     requires wires { length counts.now.opened ≡ length words.now.histories }
-    ensures { (length hands.new ≡ length hands.old) × All (HasFinished words.now counts.now.closed) hands.new }
+    ensures { (length hands.new ≡ length hands.old)
+        × All (HasFinished words.now counts.now.closed) hands.new }
 {
     let threads = threads_of(hands.len(), counts.all().len());
     thread::for_each_mut(
@@ -74,7 +76,8 @@ fn raise_all<R: Threads + Sync>(
         hands,
         threads,
         &|_i: usize, hand: &mut HistoryHand|
-            requires { IsIdle words.now hand.now × (length counts.now.opened ≡ length words.now.histories) }
+            requires { IsIdle words.now hand.now
+                × (length counts.now.opened ≡ length words.now.histories) }
             ensures { HasFinished words.entry.now counts.entry.now.closed hand.exit.now }
         { raise_some(words, counts, hand) },
     );
@@ -105,10 +108,12 @@ fn gather(
     mut hands: Vec<HistoryHand>,
 )
     requires of { IsHandOf words.now main.old }
-    requires main { main.old.view ≡ history_main words.now.histories (vec_len hands) (vec_len hands) [] }
+    requires main { main.old.view
+        ≡ history_main words.now.histories (vec_len hands) (vec_len hands) [] }
     requires hands { All (HasFinished words.now counts.now.closed) hands.items }
     ensures of { IsHandOf words.now main.new }
-    ensures joined { AreJoined words.now.histories counts.now.closed (vec_len hands) 0 (vec_len hands) main.new.view }
+    ensures joined { AreJoined words.now.histories counts.now.closed (vec_len hands) 0
+        (vec_len hands) main.new.view }
 {
     let _counts = counts;
     while let Some(hand) = hands.pop() {
@@ -128,7 +133,9 @@ fn raised<R: Threads + Sync>(
     requires wires { length counts.now.opened ≡ length history.now }
     requires workers { (1 ≤ workers) × (workers ≤ 8) }
     ensures long { IfOk result (λ histories. length histories ≡ length history.now) }
-    ensures each { IfOk result (λ histories. (w : ℕ) → w < length history.now → slice_index histories w ≡ slice_index history.now w + (slice_index counts.now.closed w - 1)) }
+    ensures each { IfOk result (λ histories. (w : ℕ) → w < length history.now
+        → slice_index histories w
+        ≡ slice_index history.now w + (slice_index counts.now.closed w - 1)) }
 {
     histories_are_raised_by_overuse();
     let (words, mut main) = HistoryWords::start(alloc, history)?;
@@ -149,7 +156,8 @@ pub fn raise<R: Threads + Sync>(
     workers: u32,
 ) -> Result<(), NoMemory>
     requires histories { AreHistories history.old }
-    requires wires { (length counts.now.opened ≡ length history.old) × (length counts.now.closed ≡ length history.old) }
+    requires wires { (length counts.now.opened ≡ length history.old)
+        × (length counts.now.closed ≡ length history.old) }
     requires workers { (1 ≤ workers) × (workers ≤ 8) }
     ensures { OnOk result (history.new ≡ next_history history.old counts.now.closed) }
 {

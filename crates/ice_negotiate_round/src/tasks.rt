@@ -40,7 +40,8 @@ pub fn tasks_of(
     moved: &[NetNo],
 ) -> Result<Vec<Task>, NoMemory>
     requires long { length trees.now ≡ length nets.now }
-    requires within { (k : ℕ) (number : Number) → slice_get moved.now k ≡ Some number → number.0 < length nets.now }
+    requires within { (k : ℕ) (number : Number) → slice_get moved.now k ≡ Some number
+        → number.0 < length nets.now }
     ensures { IfOk result (λ tasks. AreTasksOf nets.now trees.now moved.now tasks.items) }
 {
     let mut tasks = Vec::with_capacity(alloc, moved.len())?;

@@ -10,7 +10,8 @@ use Rattle.ice_net.specs.declared.kind.CellKind.{CellKind}
 use Rattle.ice_net.specs.declared.kind.CellKind.TheVariants.{Lut, Cover, Carry, Flop, PadCell, Global}
 use Rattle.ice_base.specs.Lists.{with_name}
 use Rattle.ice_net.specs.declared.port.Way.{Way}
-use Rattle.ice_net.specs.NetlistData.{NetlistData, PlacesAre, with_port, port_by, port_again, port_at, merged}
+use Rattle.ice_net.specs.NetlistData.{NetlistData, with_port, port_by, port_again, port_at, merged}
+use Rattle.ice_net.specs.Ways.{PlacesAre}
 use Rattle.ice_net.proofs.Single.{names_once, ports_still_once}
 use Rattle.ice_net.specs.Formed.{IsFormed, IsIndexed, port_numbers, IsFormedCell, IsPortBelow, IsBelow, IsPresent, IsFormedKind}
 

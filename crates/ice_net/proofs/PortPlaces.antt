@@ -5,7 +5,8 @@ use Rattle.std.proofs.lemmas.List.Folds.{position_or_len_push}
 use Rattle.ice_base.specs.declared.number.SignalNo.{SignalNo}
 use Rattle.ice_net.specs.declared.port.Port.{Port}
 use Rattle.ice_net.specs.declared.port.Way.{Way}
-use Rattle.ice_net.specs.NetlistData.{PlacesAre, is_at, port_at}
+use Rattle.ice_net.specs.NetlistData.{is_at, port_at}
+use Rattle.ice_net.specs.Ways.{PlacesAre}
 
 first_within : {X : Type 0} (p : X → Bool) (xs : List X) → position_or_len p xs ≤ length xs
 first_within p [] = omega arith

@@ -1,5 +1,5 @@
--- What the ports of a netlist drive, and which inputs are in use.
-use Rattle.std.specs.Prelude.{ℕ, ◌==◌, Bool, true, false, List, [], ◌∷◌, Option, Some, None, if◌then◌else◌, slice_get, slice_index_or}
+-- What the ports of a netlist drive.
+use Rattle.std.specs.Prelude.{ℕ, ◌==◌, Bool, true, false, List, Option, Some, None, if◌then◌else◌, slice_get, slice_index_or}
 use Rattle.ice_base.specs.declared.number.SignalNo.{SignalNo}
 use Rattle.ice_base_values.specs.System.{reading}
 use Rattle.ice_net.specs.declared.cell.Cell.{Cell}
@@ -13,39 +13,17 @@ use Rattle.ice_net.specs.declared.port.Way.TheVariants.{Output}
 use Rattle.ice_net.specs.Drivers.{buffer_at}
 
 -- ---- pin types
--- the three types of an SB_IO: an input (000001), an output (011001), and an output with an enable (101001)
-abbrev pub input_type : ℕ
-input_type = 1
-
+-- an SB_IO that drives its pad: an output (011001), and an output with an enable (101001)
 abbrev pub output_type : ℕ
 output_type = 25
 
 abbrev pub enabled_type : ℕ
 enabled_type = 41
 
-abbrev pub is_type : ℕ → Bool
-is_type pin_type = if pin_type == input_type then true else (if pin_type == output_type then true else pin_type == enabled_type)
-
 -- ---- inputs
 -- what the input at a place reads, by the values of signals; a missing one reads `bare`
 abbrev pub at_input : Bool → (ℕ → Bool) → List (Option SignalNo) → ℕ → Bool
 at_input bare v ins k = reading bare (λ (signal : SignalNo). v signal.0) (slice_index_or ins k None)
-
--- D_OUT_0 and OUTPUT_ENABLE of an SB_IO
-abbrev pub data_of : List (Option SignalNo) → Option SignalNo
-data_of ins = slice_index_or ins 1 None
-
-abbrev pub enable_of : List (Option SignalNo) → Option SignalNo
-enable_of ins = slice_index_or ins 2 None
-
--- the inputs of an SB_IO that are in use, by its type
-abbrev pub pad_uses : ℕ → List (Option SignalNo) → List (Option SignalNo)
-pad_uses pin_type ins = if pin_type == output_type then data_of ins ∷ [] else (if pin_type == enabled_type then data_of ins ∷ enable_of ins ∷ [] else [])
-
--- the inputs of a cell that are in use: all but some of an SB_IO
-abbrev pub uses_by : CellKind → List (Option SignalNo) → List (Option SignalNo)
-uses_by (PadCell pin_type pullup) ins = pad_uses pin_type ins
-uses_by kind ins = ins
 
 -- ---- drives
 -- a port that drives a level

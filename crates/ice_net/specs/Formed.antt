@@ -7,7 +7,8 @@ use Rattle.ice_net.specs.declared.kind.CellKind.{CellKind}
 use Rattle.ice_net.specs.declared.kind.CellKind.TheVariants.{Lut, Cover, Carry, Flop, PadCell, Global}
 use Rattle.ice_net.specs.declared.port.Port.{Port}
 use Rattle.ice_net.specs.Kinds.{ins_count, outs_count}
-use Rattle.ice_net.specs.NetlistData.{NetlistData, PlacesAre}
+use Rattle.ice_net.specs.NetlistData.{NetlistData}
+use Rattle.ice_net.specs.Ways.{PlacesAre}
 
 -- a missing signal, or a number of a netlist of so many signals
 abbrev pub IsBelow : ℕ → Option SignalNo → Type 0
@@ -68,3 +69,12 @@ pub record IsIndexed (n : NetlistData) (places : List (Option ℕ)) : Type 0 whe
   pub formed : IsFormed n
   pub single : IsSingle n
   pub places_are : PlacesAre n.ports places
+
+-- a kind that a word may name, with parameters in range: no cover
+abbrev pub IsGateKind : CellKind → Type 0
+IsGateKind (Lut table) = Unit {0}
+IsGateKind (Cover table width) = ⊥
+IsGateKind Carry = Unit {0}
+IsGateKind (Flop falling enable reset) = Unit {0}
+IsGateKind (PadCell pin_type pullup) = pin_type < 64
+IsGateKind Global = Unit {0}

@@ -1,5 +1,5 @@
 -- The kinds of cells: the words that name them, the places of their ports, and what a flip-flop keeps.
-use Rattle.std.specs.Prelude.{ℕ, ◌+◌, ◌<◌, Bool, true, false, List, [], ◌∷◌, ◌++◌, length, take, drop, Option, Some, None, if◌then◌else◌, option_map, codes, bytes_eq, not, ◌&&◌}
+use Rattle.std.specs.Prelude.{ℕ, ◌+◌, Bool, true, false, List, [], ◌∷◌, ◌++◌, length, take, drop, Option, Some, None, if◌then◌else◌, option_map, codes, bytes_eq, not, ◌&&◌}
 use Rattle.ice_base.specs.Text.{begins_with}
 use Rattle.ice_net.specs.declared.kind.Reset.{Reset}
 use Rattle.ice_net.specs.declared.kind.Reset.TheVariants.{Nothing, SyncReset, AsyncReset, SyncSet, AsyncSet}
@@ -91,15 +91,6 @@ kind_of word =
     else (if bytes_eq word (codes "SB_GB") then Some Global
     else (if bytes_eq (take 6 word) (codes "SB_DFF") then flop_of (drop 6 word)
     else None))))
-
--- a kind that a word may name, with parameters in range: no cover
-abbrev pub IsGateKind : CellKind → Type 0
-IsGateKind (Lut table) = Unit {0}
-IsGateKind (Cover table width) = ⊥
-IsGateKind Carry = Unit {0}
-IsGateKind (Flop falling enable reset) = Unit {0}
-IsGateKind (PadCell pin_type pullup) = pin_type < 64
-IsGateKind Global = Unit {0}
 
 -- The clock's level of the step before and its level now make the active edge: from 1 to 0 for a flip-flop with a falling clock,
 -- from 0 to 1 for the others. In the first step there is no level before, and no edge.

@@ -1,7 +1,9 @@
 pub mod NetlistData
+pub mod Ways
 pub mod Kinds
 pub mod Formed
 pub mod Drivers
 pub mod Drives
+pub mod Uses
 pub mod Meaning
 pub mod Limits

@@ -1,5 +1,5 @@
 -- A netlist: the names of its signals in the order of their numbers, its ports and its cells.
-use Rattle.std.specs.Prelude.{◌≡◌, ℕ, Bool, ◌==◌, List, [], ◌∷◌, ◌++◌, Option, Some, None, slice_get, slice_index_or, slice_set, position}
+use Rattle.std.specs.Prelude.{ℕ, Bool, ◌==◌, List, [], ◌∷◌, ◌++◌, Option, Some, None, slice_get, slice_set, position}
 use Rattle.ice_base.specs.declared.number.SignalNo.{SignalNo}
 use Rattle.ice_net.specs.declared.cell.Cell.{Cell}
 use Rattle.ice_net.specs.declared.port.Port.{Port}
@@ -40,19 +40,3 @@ port_by ports signal way (Some k) = port_again ports k signal way (slice_get por
 -- the ports after a signal is made one: a new port goes last, and one that is there already becomes Both where the ways differ
 abbrev pub with_port : List Port → SignalNo → Way → List Port
 with_port ports signal way = port_by ports signal way (port_at signal.0 ports)
-
-abbrev pub way_by : Option Port → Option Way
-way_by None = None
-way_by (Some port) = Some port.way
-
-abbrev pub way_at : List Port → Option ℕ → Option Way
-way_at ports None = None
-way_at ports (Some k) = way_by (slice_get ports k)
-
--- the way of a signal's port, if it is a port
-abbrev pub way_of : List Port → ℕ → Option Way
-way_of ports s = way_at ports (port_at s ports)
-
--- the list tells the place of each signal's port; behind its end there is none
-abbrev pub PlacesAre : List Port → List (Option ℕ) → Type 0
-PlacesAre ports places = (s : ℕ) → slice_index_or places s None ≡ port_at s ports

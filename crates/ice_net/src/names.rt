@@ -1,6 +1,7 @@
 //! Names in the order in which they are first met.
 ghost use Rattle.std.specs.Prelude.{◌≡◌, ◌<◌, ◌≤◌, length, position, bytes_eq, IfOk, IfSome, OnOk, OnErr};
-ghost use Rattle.ice_base.specs.Lists.{texts, with_name, number_of_name};
+ghost use Rattle.ice_base.specs.Lists.{with_name, number_of_name};
+ghost use Rattle.ice_base.specs.Keys.{texts};
 
 use ice_base::NoMemory;
 use indexmap::IndexSet;
@@ -14,7 +15,8 @@ pub(crate) fn number_of(
     name: &[u8],
 ) -> Result<usize, NoMemory>
     ensures number { IfOk result (λ n. n ≡ number_of_name (texts names.old.keys) name.now) }
-    ensures appended { OnOk result (texts names.new.keys ≡ with_name (texts names.old.keys) name.now) }
+    ensures appended { OnOk result
+        (texts names.new.keys ≡ with_name (texts names.old.keys) name.now) }
     ensures within { IfOk result (λ n. n < length (texts names.new.keys)) }
     ensures refused { OnErr result (names.new.keys ≡ names.old.keys) }
 {

@@ -1,7 +1,8 @@
 //! Netlists as they are built.
 ghost use Rattle.std.specs.Prelude.{◌≡◌, ◌↔◌, ◌++◌, ◌∷◌, [], ◌<◌, ◌≤◌, length, slice_index_or, Some, None, option_map, position, bytes_eq, IfOk, IfSome, OnOk, OnErr, IsTrue};
 ghost use Rattle.ice_base.specs.Lists.{with_name, number_of_name};
-ghost use Rattle.ice_net.specs.NetlistData.{empty_netlist, with_port, port_at, way_of};
+ghost use Rattle.ice_net.specs.NetlistData.{empty_netlist, with_port, port_at};
+ghost use Rattle.ice_net.specs.Ways.{way_of};
 ghost use Rattle.ice_net.specs.Formed.{IsFormed, IsFormedCell, IsSingle};
 
 use crate::names::{find, number_of};
@@ -33,15 +34,18 @@ pub struct Netlist {
 }
 
 impl Model for Netlist {
-    ghost use Rattle.ice_base.specs.Lists.{texts};
+    ghost use Rattle.ice_base.specs.Keys.{texts};
     ghost use Rattle.ice_net.specs.NetlistData.{NetlistData};
     ghost use Rattle.ice_net.specs.Formed.{IsIndexed};
 
     ghost Value = { NetlistData };
 
-    ghost view = { λ n. record { names = texts n.names.keys; ports = n.ports.items; cells = n.cells.items } };
+    ghost view = { λ n.
+        record { names = texts n.names.keys; ports = n.ports.items; cells = n.cells.items } };
 
-    ghost invariant = { λ n. IsIndexed (record { names = texts n.names.keys; ports = n.ports.items; cells = n.cells.items }) n.places.items };
+    ghost invariant = { λ n. IsIndexed
+        (record { names = texts n.names.keys; ports = n.ports.items; cells = n.cells.items })
+        n.places.items };
 }
 
 impl Netlist {
@@ -84,7 +88,8 @@ impl Netlist {
     pub fn signal(&mut self, name: &[u8]) -> Result<SignalNo, NoMemory>
         requires { length self.old.names < MOST_NAMES }
         ensures number { IfOk result (λ signal. signal.0 ≡ number_of_name self.old.names name.now) }
-        ensures appended { OnOk result (self.new ≡ record self.old { names = with_name self.old.names name.now }) }
+        ensures appended { OnOk result
+            (self.new ≡ record self.old { names = with_name self.old.names name.now }) }
         ensures within { IfOk result (λ signal. signal.0 < length self.new.names) }
         ensures kept { length self.old.names ≤ length self.new.names }
         ensures refused { OnErr result (self.new ≡ self.old) }
@@ -96,7 +101,8 @@ impl Netlist {
 
     /// The signal of a name; None exactly where no signal has it. It takes no memory.
     pub fn find(&self, name: &[u8]) -> Option<SignalNo>
-        ensures place { option_map (λ signal. signal.0) result ≡ position (bytes_eq name.now) self.now.names }
+        ensures place { option_map (λ signal. signal.0) result
+            ≡ position (bytes_eq name.now) self.now.names }
         ensures within { IfSome result (λ signal. signal.0 < length self.now.names) }
     {
         let number = find(&self.names, name)?;
@@ -115,7 +121,8 @@ impl Netlist {
     /// the netlist is as before.
     pub fn port(&mut self, signal: SignalNo, way: Way) -> Result<(), NoMemory>
         requires { signal.0 < length self.old.names }
-        ensures added { OnOk result (self.new ≡ record self.old { ports = with_port self.old.ports signal way }) }
+        ensures added { OnOk result
+            (self.new ≡ record self.old { ports = with_port self.old.ports signal way }) }
         ensures refused { OnErr result (self.new ≡ self.old) }
     {
         add_port(&mut self.ports, &mut self.places, signal, way)
@@ -132,7 +139,8 @@ impl Netlist {
     pub fn cell(&mut self, cell: Cell) -> Result<(), NoMemory>
         requires room { length self.old.cells < MOST_CELLS }
         requires formed { IsFormedCell (length self.old.names) cell }
-        ensures added { OnOk result (self.new ≡ record self.old { cells = self.old.cells ++ cell ∷ [] }) }
+        ensures added { OnOk result
+            (self.new ≡ record self.old { cells = self.old.cells ++ cell ∷ [] }) }
         ensures refused { OnErr result (self.new ≡ self.old) }
     {
         self.cells.push(cell)?;

@@ -1,6 +1,4 @@
 //! The ports of a netlist.
-ghost use Rattle.std.specs.Prelude.{◌≡◌};
-ghost use Rattle.ice_net.specs.NetlistData.{merged};
 
 use ice_base::SignalNo;
 
@@ -22,15 +20,4 @@ pub struct Port {
     pub signal: SignalNo,
     /// Whether it comes in, goes out or does both.
     pub way: Way,
-}
-
-/// The way of a port that is named as a port once more: Both where the ways differ.
-pub fn merged(before: Way, now: Way) -> Way
-    ensures { result ≡ merged before now }
-{
-    match (before, now) {
-        (Way::Input, Way::Input) => Way::Input,
-        (Way::Output, Way::Output) => Way::Output,
-        _ => Way::Both,
-    }
 }

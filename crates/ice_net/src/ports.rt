@@ -1,13 +1,26 @@
 //! The ports of a netlist, with the place of each signal's port.
 ghost use Rattle.std.specs.Prelude.{◌≡◌, ℕ, ◌<◌, ◌≤◌, length, slice_index_or, None, OnOk, OnErr};
-ghost use Rattle.ice_net.specs.NetlistData.{with_port, port_at, way_of, PlacesAre};
+ghost use Rattle.ice_net.specs.NetlistData.{merged, with_port, port_at};
+ghost use Rattle.ice_net.specs.Ways.{way_of, PlacesAre};
 
-use crate::{Port, Way, merged};
+use crate::{Port, Way};
 use ice_base::{NoMemory, SignalNo};
+
+/// The way of a port that is named as a port once more: Both where the ways differ.
+pub fn merged(before: Way, now: Way) -> Way
+    ensures { result ≡ merged before now }
+{
+    match (before, now) {
+        (Way::Input, Way::Input) => Way::Input,
+        (Way::Output, Way::Output) => Way::Output,
+        _ => Way::Both,
+    }
+}
 
 // Makes room for the place of a signal's port.
 fn reach(places: &mut Vec<Option<usize>>, signal: SignalNo) -> Result<(), NoMemory>
-    ensures same { (s : ℕ) → slice_index_or places.new.items s None ≡ slice_index_or places.old.items s None }
+    ensures same { (s : ℕ)
+        → slice_index_or places.new.items s None ≡ slice_index_or places.old.items s None }
     ensures room { OnOk result (signal.0 < length places.new.items) }
 {
     let index = signal.0 as usize;

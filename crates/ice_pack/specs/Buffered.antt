@@ -3,9 +3,9 @@ use Rattle.std.specs.Prelude.{ℕ, ◌+◌, List, [], ◌∷◌, Option, None, s
 use Rattle.ice_net.specs.declared.cell.Cell.{Cell}
 use Rattle.ice_net.specs.declared.port.Port.{Port}
 use Rattle.ice_cells.specs.declared.design.DesignPad.{DesignPad}
-use Rattle.ice_cells.specs.Packed.{Plan, pad_by}
+use Rattle.ice_cells.specs.Packed.{PackPlan, pad_by}
 
 -- the pads of ports, the first of which is port k
-abbrev pub pads_by : Plan → List Cell → List (Option ℕ) → ℕ → List Port → List DesignPad
+abbrev pub pads_by : PackPlan → List Cell → List (Option ℕ) → ℕ → List Port → List DesignPad
 pads_by p cells buffers k [] = []
 pads_by p cells buffers k (port ∷ ports) = pad_by p cells k port (slice_index_or buffers port.signal.0 None) ∷ pads_by p cells buffers (k + 1) ports

@@ -15,7 +15,8 @@ fn push_global(
     slices: &Slices<'_>,
     cell: &Cell,
 ) -> Result<(), NoMemory>
-    ensures { OnOk result (found.new.items ≡ found.old.items ++ global_by (plan slices.now) cell.now.kind cell.now.ins) }
+    ensures { OnOk result (found.new.items
+        ≡ found.old.items ++ global_by (plan slices.now) cell.now.kind cell.now.ins) }
 {
     let CellKind::Global = cell.kind else {
         return Ok(());

@@ -28,8 +28,10 @@ fn pads_and_globals(
     buffers: &[Option<usize>],
 ) -> Result<(Vec<DesignPad>, Vec<Option<Root>>), NoMemory>
     requires { AreBuffers netlist.now buffers.now }
-    ensures pads { IfOk result (λ r. r.0.items ≡ pads_from (plan slices.now) netlist.now.cells 0 netlist.now.ports) }
-    ensures globals { IfOk result (λ r. r.1.items ≡ globals_of (plan slices.now) netlist.now.cells) }
+    ensures pads { IfOk result (λ r.
+        r.0.items ≡ pads_from (plan slices.now) netlist.now.cells 0 netlist.now.ports) }
+    ensures globals { IfOk result (λ r.
+        r.1.items ≡ globals_of (plan slices.now) netlist.now.cells) }
 {
     let pads = pads_from(alloc, slices, netlist, buffers)?;
     let globals = globals_of(alloc, slices, netlist.cells())?;
@@ -108,7 +110,8 @@ fn constants_of(
     openers: &[usize],
 ) -> Result<(u32, u32), NoMemory>
     ensures zero { IfOk result (λ r. r.0 ≡ length openers.now) }
-    ensures one { IfOk result (λ r. r.1 ≡ length openers.now + one_if (needs_zero origins.now cells.now)) }
+    ensures one { IfOk result (λ r.
+        r.1 ≡ length openers.now + one_if (needs_zero origins.now cells.now)) }
 {
     let zero = to_u32(openers.len())?;
     let one = next_if(zero, needs_zero(origins, cells))?;
@@ -128,7 +131,8 @@ fn design_by(
     requires carriers { places.now.carriers ≡ carriers_of facts.now }
     requires homes { places.now.homes ≡ homes facts.now }
     requires openers { places.now.openers ≡ openers facts.now }
-    ensures { IfOk result (λ design. design ≡ unread_by sound.now (plan_by sound.now.cells origins.now facts.now)) }
+    ensures { IfOk result (λ design.
+        design ≡ unread_by sound.now (plan_by sound.now.cells origins.now facts.now)) }
 {
     let netlist = sound.netlist();
     let cells = netlist.cells();
@@ -155,7 +159,8 @@ fn placed(
     facts: &Facts,
 ) -> Result<Design, NoMemory>
     requires { bare.now ≡ bare_outputs sound.now }
-    ensures { IfOk result (λ design. design ≡ unread_by sound.now (plan_by sound.now.cells origins.now facts.now)) }
+    ensures { IfOk result (λ design.
+        design ≡ unread_by sound.now (plan_by sound.now.cells origins.now facts.now)) }
 {
     let places = homes_of(alloc, facts)?;
     let design = design_by(alloc, sound, origins, bare, facts, &places)?;

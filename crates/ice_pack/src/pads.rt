@@ -1,6 +1,6 @@
 //! The pads of ports.
 ghost use Rattle.std.specs.Prelude.{◌≡◌, None, length, map, slice_index_or, IfOk};
-ghost use Rattle.ice_net.specs.Drives.{pad_uses};
+ghost use Rattle.ice_net.specs.Uses.{pad_uses};
 ghost use Rattle.ice_net.specs.Drivers.{pin_of};
 ghost use Rattle.ice_check.specs.Tables.{ArePlaces};
 ghost use Rattle.ice_cells.specs.Packed.{bare_drive, bare_type, bare_pad, buffered_pad, pad_by, pads_from};
@@ -131,7 +131,8 @@ fn pads_by(
     buffers: &[Option<usize>],
     ports: &[Port],
 ) -> Result<Vec<DesignPad>, NoMemory>
-    ensures { IfOk result (λ pads. pads.items ≡ pads_by (plan slices.now) cells.now buffers.now 0 ports.now) }
+    ensures { IfOk result (λ pads.
+        pads.items ≡ pads_by (plan slices.now) cells.now buffers.now 0 ports.now) }
 {
     let mut pads = Vec::new(alloc);
     for (k, port) in ports.iter().enumerate() {
@@ -150,7 +151,8 @@ pub(crate) fn pads_from(
     buffers: &[Option<usize>],
 ) -> Result<Vec<DesignPad>, NoMemory>
     requires { ArePlaces (length netlist.now.names) (map pin_of netlist.now.cells) buffers.now }
-    ensures { IfOk result (λ pads. pads.items ≡ pads_from (plan slices.now) netlist.now.cells 0 netlist.now.ports) }
+    ensures { IfOk result (λ pads.
+        pads.items ≡ pads_from (plan slices.now) netlist.now.cells 0 netlist.now.ports) }
 {
     let pads = pads_by(alloc, slices, netlist.cells(), buffers, netlist.ports())?;
     Ok(pads)

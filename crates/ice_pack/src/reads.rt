@@ -104,7 +104,8 @@ fn no_marks(alloc: Global, count: usize) -> Result<Vec<bool>, NoMemory>
 // The ports of a design whose pads something reads.
 #[tactic(auto, using(crate::proofs::Marking::all_marked))]
 pub(crate) fn marks_of(alloc: Global, design: &Design) -> Result<Vec<bool>, NoMemory>
-    ensures { IfOk result (λ marks. marks.items ≡ marked (replicate (length design.now.pads) false) (roots_read design.now)) }
+    ensures { IfOk result (λ marks.
+        marks.items ≡ marked (replicate (length design.now.pads) false) (roots_read design.now)) }
 {
     let mut marks = no_marks(alloc, design.pads().len())?;
     mark_carries(&mut marks, design.carries.as_slice());

@@ -17,10 +17,10 @@ use Rattle.ice_cells.specs.declared.root.Root.{Root}
 use Rattle.ice_cells.specs.declared.root.Root.TheVariants.{PadIn, CellOut, GlobalOut, CarryOut}
 use Rattle.ice_cells.specs.Meaning.{cell_inputs, output_reads, carry_reads, node_reads, node_makes, input, HasValues}
 use Rattle.ice_cells.specs.Nodes.{Node, Net, Level, net, carry_into}
-use Rattle.ice_cells.specs.Packed.{Plan, no_inputs, ins_at, sink}
+use Rattle.ice_cells.specs.Packed.{PackPlan, no_inputs, ins_at, sink}
 use Rattle.ice_cells.specs.Tables.{table}
 use Rattle.ice_cells.proofs.TableLaws.{get_or-table}
-use Rattle.ice_pack_laws.specs.IsPacked.{root_at, Stands, keeps, gives, carries, fixed, IsSunk}
+use Rattle.ice_pack_laws.specs.IsPacked.{root_at, IsLogicCellOf, keeps, gives, carries, fixed, IsSunk}
 use Rattle.ice_cells.proofs.NodeLevels.{level_there}
 use Rattle.ice_pack_laws.proofs.Values.{KeepsSame, IsReady, HasD, HaveD, lev, made, put, sunk, input_claims, cell_claims, below_at, inputs_are, out_reads, table_there, carry_value}
 use Rattle.ice_pack_laws.proofs.Inputs.{input_at}
@@ -33,7 +33,7 @@ kept_from new_kept (Some (CellOut c)) = slice_index_or new_kept c false
 kept_from new_kept (Some (GlobalOut g)) = false
 kept_from new_kept (Some (CarryOut c)) = false
 
-module _ (n : NetlistData) (d : Design) (p : Plan) (order : List ℕ) (ready : IsReady n d p order) (levels new_kept : List Bool) where
+module _ (n : NetlistData) (d : Design) (p : PackPlan) (order : List ℕ) (ready : IsReady n d p order) (levels new_kept : List Bool) where
   abbrev kept : List Bool
   kept = table (λ j. kept_from new_kept (root_at p j)) (length n.cells)
 
@@ -66,7 +66,7 @@ module _ (n : NetlistData) (d : Design) (p : Plan) (order : List ℕ) (ready : I
       (out_reads n d p order ready levels kept new_kept same_kept c logic None at bare
       ∙ inputs_are n d p order ready levels kept new_kept same_kept c logic ins (ready.packed.unchained c logic at) e) all
 
-  from_stand : (c : ℕ) (logic : LogicCell) → At d.cells c logic → logic.flop ≡ None → Stands n d p c logic → Has_value (Net (CellOut c))
+  from_stand : (c : ℕ) (logic : LogicCell) → At d.cells c logic → logic.flop ≡ None → IsLogicCellOf n d p c logic → Has_value (Net (CellOut c))
   from_stand c logic at bare (keeps flop e) = absurd (none_some flop (sym bare ∙ e))
     where
       none_some : (x : Control × Reset) → None ≡ Some x → ⊥
@@ -117,7 +117,7 @@ module _ (n : NetlistData) (d : Design) (p : Plan) (order : List ℕ) (ready : I
               subst (λ h. Has_value (Net (CarryOut h))) is.4
               (_, carry_value n d p order ready levels kept new_kept same_kept is.0 is.1 is.2 is.3 (cell_claims n d p order ready levels kept new_kept same_kept is.0 is.1 is.2.at))
 
-pub have_values : (n : NetlistData) (d : Design) (p : Plan) (order : List ℕ) → IsReady n d p order → HasValues d
+pub have_values : (n : NetlistData) (d : Design) (p : PackPlan) (order : List ℕ) → IsReady n d p order → HasValues d
 have_values n d p order ready = record {
   each = λ levels kept node. let v = has_value n d p order ready levels kept node in (v.0, level_there d levels kept node v.0 v.1);
 }

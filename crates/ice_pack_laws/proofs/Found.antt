@@ -22,13 +22,13 @@ use Rattle.ice_cells.specs.Origins.{input_origin, origins}
 use Rattle.ice_cells.specs.Uses.{dropped, bare_outputs}
 use Rattle.ice_cells.specs.Homes.{Facts, facts_of, part, part_of, is_kept, anchor, carriers_of, first_member, first_by, opens, openers, openers_before, home, homes}
 use Rattle.ice_cells.specs.Tables.{table}
-use Rattle.ice_cells.specs.Packed.{Plan, plan_of, packed, root_by, is_global, one_if, roots_from, global_by, carry_input, carry_by, carries_from, cell_by, cell_of, constant_cell, constant_if, needs_zero, needs_one, pad_by, pads_from}
+use Rattle.ice_cells.specs.Packed.{PackPlan, plan_of, packed, root_by, is_global, one_if, roots_from, global_by, carry_input, carry_by, carries_from, cell_by, cell_of, constant_cell, constant_if, needs_zero, needs_one, pad_by, pads_from}
 use Rattle.ice_cells.proofs.TableLaws.{get_or-table}
 use Rattle.ice_cells.proofs.RangeFilters.{passing_at}
 use Rattle.ice_pack_share.proofs.HomeLaws.{first_anchor, home_opened}
 
 -- ---- lists that go along the cells
-module _ (os : List Origin) (hs : List ℕ) (p : Plan) where
+module _ (os : List Origin) (hs : List ℕ) (p : PackPlan) where
   globals_count : (k : CellKind) (ins : List (Option SignalNo)) → length (global_by p k ins) ≡ one_if (is_global k)
   globals_count (kind.Lut t) ins = refl
   globals_count (kind.Cover t width) ins = refl
@@ -153,7 +153,7 @@ module _ (n : NetlistData) where
   abbrev pub fs : Facts
   fs = facts_of (origins n) n.cells (bare_outputs n)
 
-  abbrev pub p : Plan
+  abbrev pub p : PackPlan
   p = plan_of n
 
   abbrev opened : List LogicCell

@@ -16,7 +16,7 @@ use Rattle.ice_net.specs.declared.kind.Reset.{Reset}
 use Rattle.ice_net.specs.declared.port.Port.{Port}
 use Rattle.ice_net.specs.declared.port.Way.TheVariants.{Output}
 use Rattle.ice_net.specs.Drivers.{is_signal, pin_of, pin_by, buffer_at, is_there, has_buffer}
-use Rattle.ice_net.specs.Drives.{pad_uses}
+use Rattle.ice_net.specs.Uses.{pad_uses}
 use Rattle.ice_net.specs.Formed.{IsFormed, IsFormedCell, IsBelow}
 use Rattle.ice_net.specs.NetlistData.{NetlistData}
 use Rattle.ice_cells.specs.declared.cell.LogicCell.{LogicCell}
@@ -36,7 +36,7 @@ use Rattle.ice_cells.specs.Homes.{part, part_by, is_table, is_kept, taker, taken
 use Rattle.ice_cells.specs.Packed.{root_by, lut_inputs, enable_sink, reads_zero, reads_one, has_level, set_input, enable_input, data_input, flop_by, flop_of, cell_by, constant_cell, passing_table, plain_sink, sink, global_by, packed, unread_by, plan_of, read_pad, pads_from, bare_pad, buffered_pad, pad_by, with_carry}
 use Rattle.ice_cells.proofs.TableLaws.{get_or-table}
 use Rattle.ice_pack_share.proofs.HomeLaws.{goes, kept_anchor, anchor_again, taker_parts, taker_part, carry_part, carrier_lut, carrier_is}
-use Rattle.ice_pack_laws.specs.IsPacked.{root_at, IsSunk, IsEnabled, IsCarryCell, HasCarry, IsAlone, IsBehind, HasFlop, Stands, keeps, gives, carries, fixed, IsPadOf, lies, through, IsPacked}
+use Rattle.ice_pack_laws.specs.IsPacked.{root_at, IsSunk, IsEnabled, IsCarryCell, HasCarry, IsAlone, IsBehind, HasFlop, IsLogicCellOf, keeps, gives, carries, fixed, IsPadOf, lies, through, IsPacked}
 use Rattle.ice_pack_laws.proofs.Inputs.{at_all, input_at, place_at}
 use Rattle.ice_pack_laws.proofs.Found.{os, bare, fs, p, same_home, parts_long, global_back, pad_there, pads_long, opened_back, IsOpened}
 use Rattle.ice_pack_laws.proofs.Readers.{read_cell, read_port, taken_by}
@@ -295,7 +295,7 @@ module _ (n : NetlistData) where
   global_kind kind.Global ins (suc i) r at = cc at
 
   -- ---- where logic cells come from
-  from_part : (c : ℕ) (logic : LogicCell) (o : IsOpened n c logic) (x : Part) → part (fs n) (anchor (fs n) o.number) ≡ x → Stands n (packed n) (p n) c logic
+  from_part : (c : ℕ) (logic : LogicCell) (o : IsOpened n c logic) (x : Part) → part (fs n) (anchor (fs n) o.number) ≡ x → IsLogicCellOf n (packed n) (p n) c logic
   from_part c logic o Table e =
       let lut = cell_of_part n (anchor (fs n) o.number) Table e (λ z. cc z) in
       let is = part_table_kind (os n) lut.0.kind lut.0.ins lut.0.outs lut.2 in
@@ -325,10 +325,10 @@ module _ (n : NetlistData) where
       kept_nothing : true ≡ false → ⊥
       kept_nothing f = cc f
 
-  stand_is : (c : ℕ) (logic : LogicCell) → At (packed n).cells c logic → Stands n (packed n) (p n) c logic
+  stand_is : (c : ℕ) (logic : LogicCell) → At (packed n).cells c logic → IsLogicCellOf n (packed n) (p n) c logic
   stand_is c logic at = by (opened_back n c logic at)
     where
-      by : IsOpened n c logic ⊎ ((level : Bool) × (logic ≡ constant_cell level)) → Stands n (packed n) (p n) c logic
+      by : IsOpened n c logic ⊎ ((level : Bool) × (logic ≡ constant_cell level)) → IsLogicCellOf n (packed n) (p n) c logic
       by (inl o) = from_part c logic o (part (fs n) (anchor (fs n) o.number)) refl
       by (inr (level, e)) = fixed level e
 

@@ -16,7 +16,7 @@ use Rattle.ice_net.specs.declared.port.Port.{Port}
 use Rattle.ice_net.specs.declared.port.Way.{Way}
 use Rattle.ice_net.specs.declared.port.Way.TheVariants.{Input, Output, Both}
 use Rattle.ice_net.specs.Drivers.{buffer_at}
-use Rattle.ice_net.specs.Drives.{pad_uses}
+use Rattle.ice_net.specs.Uses.{pad_uses}
 use Rattle.ice_net.specs.Formed.{IsFormed, IsFormedCell, IsFormedKind}
 use Rattle.ice_net.specs.Kinds.{ins_count, enable_names, reset_names}
 use Rattle.ice_net.specs.NetlistData.{NetlistData}

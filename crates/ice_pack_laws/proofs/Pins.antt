@@ -19,11 +19,12 @@ use Rattle.ice_net.specs.declared.port.Way.TheVariants.{Input, Output, Both}
 use Rattle.ice_net.specs.Drivers.{is_signal, place_of, is_there, pin_of, pin_by, has_buffer, pad_by, pad_of, outputs, driver_from, driver_of}
 use Rattle.ice_net.specs.Formed.{IsFormed, IsFormedCell, IsBelow}
 use Rattle.ice_net.specs.Meaning.{depends_on, level_by, pad_level}
-use Rattle.ice_net.specs.NetlistData.{NetlistData, is_at, port_at, way_at}
+use Rattle.ice_net.specs.NetlistData.{NetlistData, is_at, port_at}
+use Rattle.ice_net.specs.Ways.{way_at}
 use Rattle.ice_check.specs.Faults.{first_number, is_portless, is_no_port, is_no_way, pin_not_port}
 use Rattle.ice_cells.specs.declared.origin.Origin.TheVariants.{Fixed, Pad}
 use Rattle.ice_cells.specs.Origins.{aliases, origin_made, input_origin, origin}
-use Rattle.ice_cells.specs.Packed.{Plan}
+use Rattle.ice_cells.specs.Packed.{PackPlan}
 use Rattle.ice_pack_share.proofs.OriginSteps.{origin_meets}
 use Rattle.ice_pack_laws.proofs.Inputs.{at_all, input_at}
 use Rattle.ice_pack_laws.proofs.Values.{ReadsPads}
@@ -96,7 +97,7 @@ pad_place cells s buffered (port ∷ ports) =
     (λ i. cond (pad_signal cells s port buffered i) (Some 0) (option_map suc (pad_place cells s buffered ports i))) ∙ sym (position_cons (is_at s) port ports)
 
 -- ---- pins
-module _ (n : NetlistData) (formed : IsFormed n) (placed : pin_not_port n ≡ None) (order : List ℕ) (sorted : IsOrder (length n.names) (depends_on n) order) (p : Plan)
+module _ (n : NetlistData) (formed : IsFormed n) (placed : pin_not_port n ≡ None) (order : List ℕ) (sorted : IsOrder (length n.names) (depends_on n) order) (p : PackPlan)
     (origins : (s : ℕ) → s < length n.names → slice_index_or p.origins s (Fixed false) ≡ origin n s) where
   port_there : (pin : Option SignalNo) → is_no_port n.ports pin ≡ false → (signal : SignalNo) × (k : ℕ) × (pin ≡ Some signal) × (port_at signal.0 n.ports ≡ Some k)
   port_there None e = cc e

@@ -15,7 +15,7 @@ use Rattle.ice_net.specs.declared.kind.Reset.{Reset}
 use Rattle.ice_net.specs.declared.port.Port.{Port}
 use Rattle.ice_net.specs.declared.port.Way.{Way}
 use Rattle.ice_net.specs.declared.port.Way.TheVariants.{Input, Output, Both}
-use Rattle.ice_net.specs.Drives.{pad_uses}
+use Rattle.ice_net.specs.Uses.{pad_uses}
 use Rattle.ice_net.specs.Formed.{IsFormed}
 use Rattle.ice_net.specs.NetlistData.{NetlistData}
 use Rattle.ice_cells.specs.declared.cell.LogicCell.{LogicCell}

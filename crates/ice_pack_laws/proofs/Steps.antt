@@ -6,7 +6,8 @@ use Rattle.std.specs.Option.{option_map_or}
 use Rattle.std.proofs.lemmas.List.{length-map}
 use Rattle.std.proofs.lemmas.Option.{same_Some, get_or_from_slice_get}
 use Rattle.ice_base.specs.declared.number.SignalNo.{SignalNo}
-use Rattle.ice_base_values.specs.System.{reading, Simulates}
+use Rattle.ice_base_values.specs.System.{reading}
+use Rattle.ice_base_values.specs.Simulations.{Simulates}
 use Rattle.ice_base_values.specs.Order.{At}
 use Rattle.ice_base_values.proofs.Machines.{shows_always_alike}
 use Rattle.ice_base_values.proofs.Members.{At_map, At_within}
@@ -20,7 +21,8 @@ use Rattle.ice_net.specs.declared.driver.Drive.TheVariants.{Off}
 use Rattle.ice_net.specs.declared.port.Port.{Port}
 use Rattle.ice_net.specs.declared.port.Way.{Way}
 use Rattle.ice_net.specs.declared.port.Way.TheVariants.{Input, Output, Both}
-use Rattle.ice_net.specs.Drives.{at_input, data_of, enable_of, pad_uses, level_drive, pad_drive, kind_drive, buffer_drive, drive_by, port_drive}
+use Rattle.ice_net.specs.Drives.{at_input, level_drive, pad_drive, kind_drive, buffer_drive, drive_by, port_drive}
+use Rattle.ice_net.specs.Uses.{data_of, enable_of, pad_uses}
 use Rattle.ice_net.specs.Drives as drives
 use Rattle.ice_net.specs.Kinds.{is_edge, fired}
 use Rattle.ice_net.specs.Formed.{IsBelow, IsPortBelow}
@@ -37,7 +39,7 @@ use Rattle.ice_cells.specs.declared.root.Root.TheVariants.{CellOut}
 use Rattle.ice_cells.specs.Meaning.{node_level, at_root, cell_inputs, given, flop_keeps, flop_clock, cell_keeps, cell_clock, state_after, pad_drives, step, start, shows}
 use Rattle.ice_cells.specs.Nodes.{Node, Net, net as node_of}
 use Rattle.ice_cells.specs.Origins.{input_origin, level_of}
-use Rattle.ice_cells.specs.Packed.{Plan, plain_sink, sink, enable_sink, origin_root, sink_root, flop_by, enable_input, set_input, passing_table, bare_type}
+use Rattle.ice_cells.specs.Packed.{PackPlan, plain_sink, sink, enable_sink, origin_root, sink_root, flop_by, enable_input, set_input, passing_table, bare_type}
 use Rattle.ice_cells.specs.Packed.{bare_drive as packed_drive}
 use Rattle.ice_cells.proofs.TableLaws.{get_or-table, passes}
 use Rattle.ice_pack_laws.specs.IsPacked.{root_at, IsOpen, IsSunk, IsEnabled, IsAlone, IsBehind, HasFlop, IsPadOf, lies, through}
@@ -52,7 +54,7 @@ ClockTied (Pad k) mine other = mine ≡ other
 ClockTied (Made i) mine other = mine ≡ other
 
 -- each flip-flop keeps the same in the states of the design and of the netlist
-pub record Tied (n : NetlistData) (p : Plan) (s t : State) : Type 0 where
+pub record Tied (n : NetlistData) (p : PackPlan) (s t : State) : Type 0 where
   pub kept : KeepsSame n p t.kept s.kept
   pub clocks : (j : ℕ) (cell : Cell) (falling enable : Bool) (reset : Reset) → At n.cells j cell → cell.kind ≡ Flop falling enable reset → (home : ℕ) → root_at p j ≡ Some (CellOut home)
       → ClockTied (input_origin p.origins (slice_index_or cell.ins 0 None)) (slice_index_or s.clocks home None) (slice_index_or t.clocks j None)
@@ -110,7 +112,7 @@ module _ (v : ℕ → Bool) where
   kept_long (x ∷ cells) (k ∷ kept) [] long also = absurd (omega arith)
   kept_long (x ∷ cells) (k ∷ kept) (c ∷ clocks) long also = ap suc (kept_long cells kept clocks (omega arith) (omega arith))
 
-module _ (n : NetlistData) (d : Design) (p : Plan) (order : List ℕ) (ready : IsReady n d p order) where
+module _ (n : NetlistData) (d : Design) (p : PackPlan) (order : List ℕ) (ready : IsReady n d p order) where
   module _ (levels : List Bool) (s t : State) (tied : Tied n p s t) where
     abbrev w : Node → Bool
     w node = node_level d levels s.kept node

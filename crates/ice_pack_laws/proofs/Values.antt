@@ -36,7 +36,7 @@ use Rattle.ice_cells.specs.Homes.{taker}
 use Rattle.ice_cells.specs.Meaning.{input, cell_inputs, output_reads, carry_reads, node_reads, output_makes, node_makes, system_of}
 use Rattle.ice_cells.specs.Nodes.{Node, Net, Level, net, source_node, carry_into}
 use Rattle.ice_cells.specs.Origins.{is_alias, constant_of, is_table_kind, cell_aliases, aliases, cell_origin, origin_made, input_origin, input_level, level_of, origin}
-use Rattle.ice_cells.specs.Packed.{Plan, four, table_at, table_by, lut_inputs, with_carry, ins_at, plain_sink, sink, origin_root, sink_root, constant_cell, carry_source, carry_input, flop_by, flop_of, pad_root}
+use Rattle.ice_cells.specs.Packed.{PackPlan, four, table_at, table_by, lut_inputs, with_carry, ins_at, plain_sink, sink, origin_root, sink_root, constant_cell, carry_source, carry_input, flop_by, flop_of, pad_root}
 use Rattle.ice_cells.specs.Uses.{dropped}
 use Rattle.ice_pack_share.specs.Laws.{origin_level}
 use Rattle.ice_pack_share.proofs.OriginSteps.{origin_meets}
@@ -45,17 +45,17 @@ use Rattle.ice_pack_laws.specs.IsPacked.{root_at, IsOpen, IsSunk, IsCarryCell, H
 use Rattle.ice_pack_laws.proofs.Inputs.{at_all, input_at, present_number, place_at, overlaid_one, read_at, table_gives}
 
 -- the level that an SB_IO reads is that of the origin at its pin
-abbrev pub ReadsPads : NetlistData → Plan → Type 0
+abbrev pub ReadsPads : NetlistData → PackPlan → Type 0
 ReadsPads n p = (j pin_type : ℕ) (pullup : Bool) (cell : Cell) → At n.cells j cell → cell.kind ≡ PadCell pin_type pullup
     → (k : ℕ) × (input_origin p.origins (slice_index_or cell.ins 0 None) ≡ Pad k) × ((levels : List Bool) → pad_level n.ports levels (slice_index_or cell.ins 0 None) ≡ slice_index_or levels k false)
 
 -- flip-flops keep the same
-abbrev pub KeepsSame : NetlistData → Plan → List Bool → List Bool → Type 0
+abbrev pub KeepsSame : NetlistData → PackPlan → List Bool → List Bool → Type 0
 KeepsSame n p kept new_kept = (j : ℕ) (cell : Cell) (falling enable : Bool) (reset : Reset) → At n.cells j cell → cell.kind ≡ Flop falling enable reset
     → (home : ℕ) → root_at p j ≡ Some (CellOut home) → slice_index_or new_kept home false ≡ slice_index_or kept j false
 
 -- all that the values of a packed design follow from
-pub record IsReady (n : NetlistData) (d : Design) (p : Plan) (order : List ℕ) : Type 0 where
+pub record IsReady (n : NetlistData) (d : Design) (p : PackPlan) (order : List ℕ) : Type 0 where
   pub formed : IsFormed n
   pub sorted : IsOrder (length n.names) (depends_on n) order
   pub packed : IsPacked n d p
@@ -70,7 +70,7 @@ there_is : (s : ℕ) (o : Option SignalNo) → is_signal s o ≡ true → is_non
 there_is s None e = cc e
 there_is s (Some x) e = refl
 
-module _ (n : NetlistData) (d : Design) (p : Plan) (order : List ℕ) (ready : IsReady n d p order) (levels kept new_kept : List Bool) (same_kept : KeepsSame n p kept new_kept) where
+module _ (n : NetlistData) (d : Design) (p : PackPlan) (order : List ℕ) (ready : IsReady n d p order) (levels kept new_kept : List Bool) (same_kept : KeepsSame n p kept new_kept) where
   abbrev packed : IsPacked n d p
   packed = ready.packed
 

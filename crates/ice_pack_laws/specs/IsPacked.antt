@@ -8,7 +8,7 @@ use Rattle.ice_net.specs.declared.kind.CellKind.TheVariants.{Carry, Flop, PadCel
 use Rattle.ice_net.specs.declared.kind.Reset.{Reset}
 use Rattle.ice_net.specs.declared.port.Port.{Port}
 use Rattle.ice_net.specs.declared.port.Way.TheVariants.{Output}
-use Rattle.ice_net.specs.Drives.{pad_uses}
+use Rattle.ice_net.specs.Uses.{pad_uses}
 use Rattle.ice_net.specs.Formed.{IsBelow}
 use Rattle.ice_net.specs.NetlistData.{NetlistData}
 use Rattle.ice_net.specs.Drivers.{buffer_at}
@@ -24,28 +24,28 @@ use Rattle.ice_cells.specs.Nodes.{source_node, carry_into}
 use Rattle.ice_cells.specs.Origins.{is_table_kind, input_origin, origin}
 use Rattle.ice_cells.specs.Uses.{dropped}
 use Rattle.ice_cells.specs.Homes.{taker}
-use Rattle.ice_cells.specs.Packed.{Plan, lut_table, lut_inputs, with_carry, no_inputs, passing_table, plain_sink, sink, pad_root, flop_of, ins_at, enable_input, set_input, carry_input, constant_cell, bare_type, bare_drive}
+use Rattle.ice_cells.specs.Packed.{PackPlan, lut_table, lut_inputs, with_carry, no_inputs, passing_table, plain_sink, sink, pad_root, flop_of, ins_at, enable_input, set_input, carry_input, constant_cell, bare_type, bare_drive}
 
 -- the root of the output of a cell
-abbrev pub root_at : Plan → ℕ → Option Root
+abbrev pub root_at : PackPlan → ℕ → Option Root
 root_at p j = slice_index_or p.roots j None
 
 -- no flip-flop has a cell with this origin for itself
-abbrev pub IsOpen : Plan → Origin → Type 0
+abbrev pub IsOpen : PackPlan → Origin → Type 0
 IsOpen p o = (i : ℕ) → o ≡ Made i → taker p.facts i ≡ None
 
 -- a sink that reads 0 where nothing drives it: constant 1 has its cell
-pub record IsSunk (d : Design) (p : Plan) (input : Option SignalNo) : Type 0 where
+pub record IsSunk (d : Design) (p : PackPlan) (input : Option SignalNo) : Type 0 where
   pub opened : IsOpen p (input_origin p.origins input)
   pub one : input_origin p.origins input ≡ Fixed true → At d.cells p.one (constant_cell true)
 
 -- an enable: constant 0 has its cell
-pub record IsEnabled (d : Design) (p : Plan) (input : Option SignalNo) : Type 0 where
+pub record IsEnabled (d : Design) (p : PackPlan) (input : Option SignalNo) : Type 0 where
   pub opened : IsOpen p (input_origin p.origins input)
   pub zero : (signal : SignalNo) → input ≡ Some signal → input_origin p.origins input ≡ Fixed false → At d.cells p.zero (constant_cell false)
 
 -- ---- carries
-pub record IsCarryCell (n : NetlistData) (d : Design) (p : Plan) (c : ℕ) (cell : Cell) : Type 0 where
+pub record IsCarryCell (n : NetlistData) (d : Design) (p : PackPlan) (c : ℕ) (cell : Cell) : Type 0 where
   pub at : At n.cells c cell
   pub is : cell.kind ≡ Carry
   pub stays : dropped cell.outs ≡ false
@@ -54,7 +54,7 @@ pub record IsCarryCell (n : NetlistData) (d : Design) (p : Plan) (c : ℕ) (cell
   pub into : IsOpen p (input_origin p.origins (slice_index_or cell.ins 2 None))
 
 -- a carry is beside the inputs 1 and 2 of its cell
-pub record HasCarry (n : NetlistData) (d : Design) (p : Plan) (c : ℕ) (cell : Cell) : Type 0 where
+pub record HasCarry (n : NetlistData) (d : Design) (p : PackPlan) (c : ℕ) (cell : Cell) : Type 0 where
   pub home : ℕ
   pub logic : LogicCell
   pub at : At d.cells home logic
@@ -66,17 +66,17 @@ pub record HasCarry (n : NetlistData) (d : Design) (p : Plan) (c : ℕ) (cell : 
 
 -- ---- look-up tables
 -- the inputs of a carry are read at the inputs 1 and 2 of a look-up table of the same pair
-pub record SharesWith (n : NetlistData) (d : Design) (p : Plan) (j c : ℕ) : Type 0 where
+pub record SharesWith (n : NetlistData) (d : Design) (p : PackPlan) (j c : ℕ) : Type 0 where
   pub cell : Cell
   pub carry : IsCarryCell n d p c cell
   pub first : input_origin p.origins (slice_index_or cell.ins 0 None) ≡ input_origin p.origins (slice_index_or (ins_at n.cells j) 1 None)
   pub second : input_origin p.origins (slice_index_or cell.ins 1 None) ≡ input_origin p.origins (slice_index_or (ins_at n.cells j) 2 None)
 
-abbrev pub MayShareWith : NetlistData → Design → Plan → ℕ → Option ℕ → Type 0
+abbrev pub MayShareWith : NetlistData → Design → PackPlan → ℕ → Option ℕ → Type 0
 MayShareWith n d p j None = Unit {0}
 MayShareWith n d p j (Some c) = SharesWith n d p j c
 
-pub record HasTable (n : NetlistData) (d : Design) (p : Plan) (j : ℕ) : Type 0 where
+pub record HasTable (n : NetlistData) (d : Design) (p : PackPlan) (j : ℕ) : Type 0 where
   pub home : ℕ
   pub logic : LogicCell
   pub at : At d.cells home logic
@@ -91,13 +91,13 @@ pub record HasTable (n : NetlistData) (d : Design) (p : Plan) (j : ℕ) : Type 0
 
 -- ---- flip-flops
 -- a cell of its own, with a table that passes what the flip-flop takes
-pub record IsAlone (n : NetlistData) (p : Plan) (input : Option SignalNo) (logic : LogicCell) : Type 0 where
+pub record IsAlone (n : NetlistData) (p : PackPlan) (input : Option SignalNo) (logic : LogicCell) : Type 0 where
   pub table : logic.table ≡ passing_table (input_origin p.origins input)
   pub ins : logic.ins ≡ plain_sink p input ∷ None ∷ None ∷ None ∷ []
   pub opened : IsOpen p (input_origin p.origins input)
 
 -- the cell of the look-up table that it takes
-pub record IsBehind (n : NetlistData) (d : Design) (p : Plan) (input : Option SignalNo) (home : ℕ) : Type 0 where
+pub record IsBehind (n : NetlistData) (d : Design) (p : PackPlan) (input : Option SignalNo) (home : ℕ) : Type 0 where
   pub number : ℕ
   pub takes : input_origin p.origins input ≡ Made number
   pub cell : Cell
@@ -106,7 +106,7 @@ pub record IsBehind (n : NetlistData) (d : Design) (p : Plan) (input : Option Si
   pub table : HasTable n d p number
   pub same : table.home ≡ home
 
-pub record HasFlop (n : NetlistData) (d : Design) (p : Plan) (j : ℕ) (enable : Bool) (ins : List (Option SignalNo)) : Type 0 where
+pub record HasFlop (n : NetlistData) (d : Design) (p : PackPlan) (j : ℕ) (enable : Bool) (ins : List (Option SignalNo)) : Type 0 where
   pub home : ℕ
   pub logic : LogicCell
   pub at : At d.cells home logic
@@ -120,15 +120,15 @@ pub record HasFlop (n : NetlistData) (d : Design) (p : Plan) (j : ℕ) (enable :
 
 -- ---- where cells of the design come from
 -- the output of a cell is that of a flip-flop, of a look-up table, of a carry's cell, or a constant
-pub data Stands (n : NetlistData) (d : Design) (p : Plan) (c : ℕ) (logic : LogicCell) : Type 0 where
-  keeps : (flop : Control × Reset) → logic.flop ≡ Some flop → Stands n d p c logic
-  gives : (j : ℕ) (cell : Cell) → At n.cells j cell → is_table_kind cell.kind ≡ true → (table : HasTable n d p j) → table.home ≡ c → Stands n d p c logic
-  carries : (j : ℕ) (cell : Cell) → IsCarryCell n d p j cell → logic.ins ≡ with_carry p n.cells no_inputs (Some j) → Stands n d p c logic
-  fixed : (level : Bool) → logic ≡ constant_cell level → Stands n d p c logic
+pub data IsLogicCellOf (n : NetlistData) (d : Design) (p : PackPlan) (c : ℕ) (logic : LogicCell) : Type 0 where
+  keeps : (flop : Control × Reset) → logic.flop ≡ Some flop → IsLogicCellOf n d p c logic
+  gives : (j : ℕ) (cell : Cell) → At n.cells j cell → is_table_kind cell.kind ≡ true → (table : HasTable n d p j) → table.home ≡ c → IsLogicCellOf n d p c logic
+  carries : (j : ℕ) (cell : Cell) → IsCarryCell n d p j cell → logic.ins ≡ with_carry p n.cells no_inputs (Some j) → IsLogicCellOf n d p c logic
+  fixed : (level : Bool) → logic ≡ constant_cell level → IsLogicCellOf n d p c logic
 
 -- ---- pads
 -- a pad without an SB_IO, or one at the SB_IO of its port
-pub data IsPadOf (n : NetlistData) (d : Design) (p : Plan) (port : Port) (pad : DesignPad) : Type 0 where
+pub data IsPadOf (n : NetlistData) (d : Design) (p : PackPlan) (port : Port) (pad : DesignPad) : Type 0 where
   lies : buffer_at n.cells port.signal.0 ≡ None → pad.pin_type ≡ bare_type port.way → pad.drive ≡ bare_drive p port.way port.signal → pad.enable ≡ None → (port.way ≡ Output → IsSunk d p (Some port.signal))
       → IsPadOf n d p port pad
   through : (j : ℕ) (cell : Cell) (pin_type : ℕ) (pullup : Bool) → buffer_at n.cells port.signal.0 ≡ Some j → At n.cells j cell → cell.kind ≡ PadCell pin_type pullup
@@ -136,7 +136,7 @@ pub data IsPadOf (n : NetlistData) (d : Design) (p : Plan) (port : Port) (pad : 
       → ((k : ℕ) (signal : Option SignalNo) → At (pad_uses pin_type cell.ins) k signal → IsSunk d p signal) → IsPadOf n d p port pad
 
 -- ---- the design
-pub record IsPacked (n : NetlistData) (d : Design) (p : Plan) : Type 0 where
+pub record IsPacked (n : NetlistData) (d : Design) (p : PackPlan) : Type 0 where
   pub origins : (s : ℕ) → s < length n.names → slice_index_or p.origins s (Fixed false) ≡ origin n s
   pub tables : (j : ℕ) (cell : Cell) → At n.cells j cell → is_table_kind cell.kind ≡ true → HasTable n d p j
   pub flops : (j : ℕ) (cell : Cell) (falling enable : Bool) (reset : Reset) → At n.cells j cell → cell.kind ≡ Flop falling enable reset → HasFlop n d p j enable cell.ins
@@ -145,7 +145,7 @@ pub record IsPacked (n : NetlistData) (d : Design) (p : Plan) : Type 0 where
       → IsSunk d p (slice_index_or cell.ins 0 None) × ((g : ℕ) × (root_at p j ≡ Some (GlobalOut g)) × At d.globals g (sink p (slice_index_or cell.ins 0 None)))
   pub pins : (j pin_type : ℕ) (pullup : Bool) (cell : Cell) → At n.cells j cell → cell.kind ≡ PadCell pin_type pullup
       → root_at p j ≡ pad_root (input_origin p.origins (slice_index_or cell.ins 0 None))
-  pub stand : (c : ℕ) (logic : LogicCell) → At d.cells c logic → Stands n d p c logic
+  pub stand : (c : ℕ) (logic : LogicCell) → At d.cells c logic → IsLogicCellOf n d p c logic
   pub unchained : (c : ℕ) (logic : LogicCell) → At d.cells c logic → logic.carry_to_in3 ≡ false
   pub carried : (c : ℕ) (logic : LogicCell) → At d.cells c logic → logic.carry ≡ true → (j : ℕ) × (cell : Cell) × IsCarryCell n d p j cell × (has : HasCarry n d p j cell) × (has.home ≡ c)
   pub buffered : (g : ℕ) (root : Option Root) → At d.globals g root → (input : Option SignalNo) × IsSunk d p input × IsBelow (length n.names) input × (root ≡ sink p input)

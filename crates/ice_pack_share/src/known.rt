@@ -25,7 +25,8 @@ impl Model for Facts {
 
     ghost Value = { FactLists };
 
-    ghost view = { λ f. record { parts = f.parts.items; takers = f.takers.items; luts = f.luts.items } };
+    ghost view = { λ f.
+        record { parts = f.parts.items; takers = f.takers.items; luts = f.luts.items } };
 }
 
 impl Facts {
@@ -120,7 +121,8 @@ fn find_takers(
     origins: &[Origin],
     bare: &[Port],
 ) -> Result<Vec<Option<usize>>, NoMemory>
-    ensures { IfOk result (λ takers. takers.items ≡ map taker_of (uses origins.now cells.now bare.now)) }
+    ensures { IfOk result (λ takers.
+        takers.items ≡ map taker_of (uses origins.now cells.now bare.now)) }
 {
     let uses = find_uses(alloc, cells, origins, bare)?;
     let takers = takers_by(alloc, &uses)?;

@@ -1,6 +1,6 @@
 //! How the cells of a netlist are read.
 ghost use Rattle.std.specs.Prelude.{◌≡◌, ◌∷◌, [], map, replicate, IfOk};
-ghost use Rattle.ice_net.specs.Drives.{pad_uses};
+ghost use Rattle.ice_net.specs.Uses.{pad_uses};
 ghost use Rattle.ice_cells.specs.declared.origin.Use.TheVariants.{Nobody};
 ghost use Rattle.ice_cells.specs.Uses.{reading_ins, taker, reads_from, cells_read, port_reading, uses, marked, use_after};
 
@@ -65,7 +65,8 @@ fn mark_pad(
     pin_type: u8,
     ins: &[Option<SignalNo>],
 )
-    ensures { uses.new.items ≡ marked uses.old.items (reads_from origins.now j kind 0 (pad_uses pin_type ins.now)) }
+    ensures { uses.new.items
+        ≡ marked uses.old.items (reads_from origins.now j kind 0 (pad_uses pin_type ins.now)) }
 {
     match pin_type {
         25 => mark_ins(uses, origins, j, kind, &[signal_at(ins, 1)]),
@@ -89,8 +90,8 @@ fn mark_cell(
     ins: &[Option<SignalNo>],
     outs: &[Option<SignalNo>],
 )
-    ensures { uses.new.items
-        ≡ marked uses.old.items (reads_from origins.now j kind 0 (reading_ins kind ins.now outs.now)) }
+    ensures { uses.new.items ≡ marked uses.old.items
+        (reads_from origins.now j kind 0 (reading_ins kind ins.now outs.now)) }
 {
     match kind {
         CellKind::Cover { .. } => if !is_alias(kind) {

@@ -105,7 +105,8 @@ fn note_lut(
 ) -> Result<(), NoMemory>
     requires { AreSmall counts.old.entries }
     ensures luts { OnOk result ((p : Pair) (k : ℕ) → lut_at luts.new.entries (turn_of p k)
-        ≡ (if gives p role && (count_in counts.old.entries p == k) then Some j else lut_at luts.old.entries (turn_of p k))) }
+        ≡ (if gives p role && (count_in counts.old.entries p == k) then Some j
+        else lut_at luts.old.entries (turn_of p k))) }
     ensures counts { OnOk result ((p : Pair) → count_in counts.new.entries p
         ≡ count_in counts.old.entries p + one_if (gives p role)) }
 {
@@ -192,7 +193,8 @@ fn push_roles(
     tables: &[usize],
 ) -> Result<(), NoMemory>
     requires { All (λ table. table < length cells.now) tables.now }
-    ensures { OnOk result (roles.new.items ≡ roles.old.items ++ map (role_at origins.now cells.now) tables.now) }
+    ensures { OnOk result
+        (roles.new.items ≡ roles.old.items ++ map (role_at origins.now cells.now) tables.now) }
 {
     for table in tables {
         roles.push(role_at(origins, cells, *table))?;
@@ -212,7 +214,8 @@ pub fn luts_behind(
     tables: &[usize],
 ) -> Result<Vec<Option<usize>>, NoMemory>
     requires { All (λ table. table < length cells.now) tables.now }
-    ensures { IfOk result (λ luts. luts.items ≡ luts_of (roles_behind origins.now cells.now tables.now)) }
+    ensures { IfOk result (λ luts.
+        luts.items ≡ luts_of (roles_behind origins.now cells.now tables.now)) }
 {
     let mut roles = roles_of(alloc, cells, origins)?;
     push_roles(&mut roles, origins, cells, tables)?;

@@ -163,7 +163,8 @@ fn opens(facts: &Facts, carriers: &[Option<usize>], j: usize) -> bool
 
 // Opens a logic cell at a cell, where one is opened.
 fn open(openers: &mut Vec<usize>, opens: bool, j: usize) -> Result<(), NoMemory>
-    ensures { OnOk result (openers.new.items ≡ openers.old.items ++ (if opens then j ∷ [] else [])) }
+    ensures { OnOk result
+        (openers.new.items ≡ openers.old.items ++ (if opens then j ∷ [] else [])) }
 {
     if opens {
         openers.push(j)?;

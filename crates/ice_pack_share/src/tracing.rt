@@ -50,8 +50,8 @@ fn settle(
 ) -> Result<(), NoMemory>
     requires found { s < length found.old.items }
     requires drivers { s < length drivers.now }
-    ensures { OnOk result (found.new.items
-        ≡ slice_set found.old.items s (made_of cells.now found.old.items (slice_index_or drivers.now s Nothing))) }
+    ensures { OnOk result (found.new.items ≡ slice_set found.old.items s
+        (made_of cells.now found.old.items (slice_index_or drivers.now s Nothing))) }
 {
     let origin = made_of(cells, found, drivers[s])?;
     found[s] = origin;

@@ -7,7 +7,7 @@ use Rattle.ice_cells.specs.declared.cell.LogicCell.{LogicCell}
 use Rattle.ice_cells.specs.declared.origin.Origin.{Origin}
 use Rattle.ice_cells.specs.declared.root.CarryIn.{CarryIn}
 use Rattle.ice_cells.specs.declared.root.Root.{Root}
-use Rattle.ice_cells.specs.Packed.{Plan, root_by, roots_from, one_if, is_global, carry_by, carries_from, cell_of}
+use Rattle.ice_cells.specs.Packed.{PackPlan, root_by, roots_from, one_if, is_global, carry_by, carries_from, cell_of}
 
 -- the cells that are left, at their first
 left_at : (cells : List Cell) (j : ℕ) (cell : Cell) → j < length cells → cell ≡ get_or cells j cell → drop j cells ≡ cell ∷ drop (j + 1) cells
@@ -26,7 +26,7 @@ root_more os hs cells j g next cell root before after lt at is step now =
 pub roots_end : (os : List Origin) (hs : List ℕ) (cells : List Cell) (j g : ℕ) (roots : List (Option Root)) → length cells ≤ j → roots ≡ roots ++ roots_from os hs j g (drop j cells)
 roots_end os hs cells j g roots le = sym (append-nil roots) ∙ ap (λ (xs : List Cell). roots ++ roots_from os hs j g xs) (sym (drop_all j cells le))
 
-pub carry_more : (p : Plan) (hs : List ℕ) (cells : List Cell) (j : ℕ) (cell : Cell) (before after : List (ℕ × CarryIn)) → j < length cells → cell ≡ get_or cells j cell
+pub carry_more : (p : PackPlan) (hs : List ℕ) (cells : List Cell) (j : ℕ) (cell : Cell) (before after : List (ℕ × CarryIn)) → j < length cells → cell ≡ get_or cells j cell
     → after ≡ before ++ carry_by p (slice_index_or hs j 0) cell.kind cell.ins cell.outs
     → after ++ carries_from p hs (j + 1) (drop (j + 1) cells) ≡ before ++ carries_from p hs j (drop j cells)
 carry_more p hs cells j cell before after lt at now =
@@ -35,10 +35,10 @@ carry_more p hs cells j cell before after lt at now =
     ∙ append_assoc before (carry_by p (slice_index_or hs j 0) cell.kind cell.ins cell.outs) rest
     ∙ ap (λ (xs : List Cell). before ++ carries_from p hs j xs) (sym (left_at cells j cell lt at))
 
-pub carries_end : (p : Plan) (hs : List ℕ) (cells : List Cell) (j : ℕ) (carries : List (ℕ × CarryIn)) → length cells ≤ j → carries ≡ carries ++ carries_from p hs j (drop j cells)
+pub carries_end : (p : PackPlan) (hs : List ℕ) (cells : List Cell) (j : ℕ) (carries : List (ℕ × CarryIn)) → length cells ≤ j → carries ≡ carries ++ carries_from p hs j (drop j cells)
 carries_end p hs cells j carries le = sym (append-nil carries) ∙ ap (λ (xs : List Cell). carries ++ carries_from p hs j xs) (sym (drop_all j cells le))
 
-pub cell_more : (p : Plan) (cells : List Cell) (openers : List ℕ) (i d : ℕ) (cell : LogicCell) (before after : List LogicCell) → i < length openers → before ≡ map (cell_of p cells) (take i openers)
+pub cell_more : (p : PackPlan) (cells : List Cell) (openers : List ℕ) (i d : ℕ) (cell : LogicCell) (before after : List LogicCell) → i < length openers → before ≡ map (cell_of p cells) (take i openers)
     → after ≡ before ++ cell ∷ [] → cell ≡ cell_of p cells (get_or openers i d) → after ≡ map (cell_of p cells) (take (i + 1) openers)
 cell_more p cells openers i d cell before after lt e now is =
     now ∙ ap (λ (xs : List LogicCell). xs ++ cell ∷ []) e ∙ ap (λ (x : LogicCell). map (cell_of p cells) (take i openers) ++ x ∷ []) is ∙ sym (map_more (cell_of p cells) openers i d lt)

@@ -39,7 +39,8 @@ fn push_carry(
     home: usize,
     cell: &Cell,
 ) -> Result<(), NoMemory>
-    ensures { OnOk result (carries.new.items ≡ carries.old.items ++ carry_by (plan slices.now) home cell.now.kind cell.now.ins cell.now.outs) }
+    ensures { OnOk result (carries.new.items ≡ carries.old.items
+        ++ carry_by (plan slices.now) home cell.now.kind cell.now.ins cell.now.outs) }
 {
     let CellKind::Carry = cell.kind else {
         return Ok(());
@@ -63,7 +64,8 @@ pub fn carries_from(
     homes: &[usize],
     cells: &[Cell],
 ) -> Result<Vec<(u32, CarryIn)>, NoMemory>
-    ensures { IfOk result (λ carries. carries.items ≡ carries_from (plan slices.now) homes.now 0 cells.now) }
+    ensures { IfOk result (λ carries.
+        carries.items ≡ carries_from (plan slices.now) homes.now 0 cells.now) }
 {
     let mut carries = Vec::new(alloc);
     for (j, cell) in cells.iter().enumerate() {

@@ -144,7 +144,8 @@ pub fn cells_by(
     bare: &[Port],
     openers: &[usize],
 ) -> Result<Vec<LogicCell>, NoMemory>
-    ensures { IfOk result (λ made. made.items ≡ cells_by (plan slices.now) cells.now bare.now openers.now) }
+    ensures { IfOk result (λ made.
+        made.items ≡ cells_by (plan slices.now) cells.now bare.now openers.now) }
 {
     let mut made = Vec::new(alloc);
     for j in openers {

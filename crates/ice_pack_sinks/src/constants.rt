@@ -1,7 +1,7 @@
 //! Constants that must be driven.
 ghost use Rattle.std.specs.Prelude.{◌≡◌, ◌++◌, true, OnOk};
 ghost use Rattle.std.specs.List.{list_any};
-ghost use Rattle.ice_net.specs.Drives.{pad_uses};
+ghost use Rattle.ice_net.specs.Uses.{pad_uses};
 ghost use Rattle.ice_cells.specs.Packed.{constant_cell, constant_if, has_level, reads_zero, reads_one, zero_by, one_by, port_one, needs_zero, needs_one};
 
 use crate::flops::{enable_input, set_input};

@@ -61,7 +61,8 @@ fn root_of(
     globals: usize,
     cell: &Cell,
 ) -> Result<Option<Root>, NoMemory>
-    ensures { IfOk result (λ root. root ≡ root_by origins.now home globals cell.now.kind cell.now.ins cell.now.outs) }
+    ensures { IfOk result (λ root.
+        root ≡ root_by origins.now home globals cell.now.kind cell.now.ins cell.now.outs) }
 {
     let ins = cell.ins.as_slice();
     let outs = cell.outs.as_slice();

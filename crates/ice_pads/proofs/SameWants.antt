@@ -12,7 +12,7 @@ use Rattle.ice_net.specs.Drivers.{buffer_at}
 use Rattle.ice_net.specs.NetlistData.{NetlistData}
 use Rattle.ice_cells.specs.declared.design.DesignPad.{DesignPad}
 use Rattle.ice_cells.specs.declared.root.Root.TheVariants.{PadIn}
-use Rattle.ice_cells.specs.Packed.{Plan, plan_of, bare_type, bare_pad, buffered_pad, pad_by, pads_from, read_pad, unread_by, packed}
+use Rattle.ice_cells.specs.Packed.{PackPlan, plan_of, bare_type, bare_pad, buffered_pad, pad_by, pads_from, read_pad, unread_by, packed}
 use Rattle.ice_cells.specs.Readings.{is_read}
 use Rattle.ice_cells.specs.Runs.{fed_numbers, moved_numbers, renamed_pad, design_of}
 use Rattle.ice_pads.specs.declared.want.Want.{Want}
@@ -40,7 +40,7 @@ abbrev pub shape_by : List Cell → ℕ → Port → Option ℕ → Shape
 shape_by cells m port None = bare_shape m port
 shape_by cells m port (Some i) = option_map_or (λ (cell : Cell). kind_shape m port cell.kind) (slice_get cells i) (bare_shape m port)
 
-kind_shaped : (p : Plan) (m : ℕ) (port : Port) (kind : CellKind) (ins : List (Option SignalNo)) → shape (buffered_pad p m port ins kind) ≡ kind_shape m port kind
+kind_shaped : (p : PackPlan) (m : ℕ) (port : Port) (kind : CellKind) (ins : List (Option SignalNo)) → shape (buffered_pad p m port ins kind) ≡ kind_shape m port kind
 kind_shaped p m port (Lut t) ins = refl
 kind_shaped p m port (Cover t width) ins = refl
 kind_shaped p m port Carry ins = refl
@@ -48,7 +48,7 @@ kind_shaped p m port (Flop falling enable reset) ins = refl
 kind_shaped p m port (PadCell pin_type pullup) ins = refl
 kind_shaped p m port Global ins = refl
 
-shaped : (p : Plan) (cells : List Cell) (m : ℕ) (port : Port) (o : Option ℕ) → shape (pad_by p cells m port o) ≡ shape_by cells m port o
+shaped : (p : PackPlan) (cells : List Cell) (m : ℕ) (port : Port) (o : Option ℕ) → shape (pad_by p cells m port o) ≡ shape_by cells m port o
 shaped p cells m port None = refl
 shaped p cells m port (Some i) = by (slice_get cells i)
   where

@@ -7,7 +7,8 @@ use Rattle.ice_pcf.specs.declared.constraint.Constraint.{Constraint}
 use Rattle.ice_chip.specs.Database.{Parts, PackageRows, same_pad}
 use Rattle.ice_chip.specs.Lookups.{package_of, global_of, gbufpin_of, padin_of}
 use Rattle.ice_chip.specs.IsRead.{IsChip}
-use Rattle.ice_chip.specs.Names.{pad_input_name, pad_output_name, output_enable_name, fabout_name}
+use Rattle.ice_chip.specs.Names.{pad_input_name, pad_output_name, output_enable_name}
+use Rattle.ice_chip.specs.WireNames.{fabout_name}
 use Rattle.ice_chip.specs.declared.rows.Pad.{Pad}
 use Rattle.ice_cells.specs.declared.design.DesignPad.{DesignPad}
 use Rattle.ice_cells.specs.declared.design.Design.{Design}

@@ -3,8 +3,9 @@ use Rattle.std.specs.Prelude.{ℕ, zero, suc, ◌==◌, nat_eq, Bool, true, fals
 use Rattle.std.specs.List.{list_any}
 use Rattle.ice_base.specs.declared.number.TileAt.{TileAt}
 use Rattle.ice_chip.specs.Database.{Parts, same_pad, same_tile}
-use Rattle.ice_chip.specs.Lookups.{names_of, global_of, gbufpin_of, padin_of, tile_of, wire_named}
-use Rattle.ice_chip.specs.Names.{clock_enable_name, set_reset_name, fabout_name, global_name}
+use Rattle.ice_chip.specs.Lookups.{names_of, global_of, gbufpin_of, padin_of, wire_named}
+use Rattle.ice_chip.specs.Listings.{tile_of}
+use Rattle.ice_chip.specs.WireNames.{clock_enable_name, set_reset_name, fabout_name, global_name}
 use Rattle.ice_chip.specs.declared.rows.Pad.{Pad}
 use Rattle.ice_chip.specs.declared.tile.Tile.{Tile}
 use Rattle.ice_chip.specs.declared.rows.TileKind.{TileKind}

@@ -34,7 +34,12 @@ impl Model for Pads {
 
     ghost Value = { PadsData };
 
-    ghost view = { λ pads. record { ports = pads.ports.items; pullups = pads.pullups.items; globals = pads.globals.items; direct = pads.direct.items } };
+    ghost view = { λ pads. record {
+      ports = pads.ports.items;
+      pullups = pads.pullups.items;
+      globals = pads.globals.items;
+      direct = pads.direct.items;
+    } };
 }
 
 impl Pads {
@@ -96,7 +101,8 @@ fn chosen_by(
     netlist: &Netlist,
     wants: &[Want],
 ) -> Result<Vec<Chosen>, PinFault>
-    ensures { Lists result (chosen_by chip.now (package_view bonded.now) lines.now netlist.now wants.now) }
+    ensures { Lists result
+        (chosen_by chip.now (package_view bonded.now) lines.now netlist.now wants.now) }
 {
     let mut tables = Tables::new(alloc);
     give_all(
@@ -130,7 +136,8 @@ pub fn assign_by(
     netlist: &Netlist,
     design: &Design,
 ) -> Result<Pads, PinFault>
-    ensures { Answers result (assign_of index.now.chip.now name.now pcf.now netlist.now design.now) }
+    ensures { Answers result
+        (assign_of index.now.chip.now name.now pcf.now netlist.now design.now) }
 {
     let Some(bonded) = index.chip.package(name) else {
         return Err(PinFault::NoPackage);

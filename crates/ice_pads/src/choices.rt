@@ -107,7 +107,8 @@ fn chosen_from(
     pins: &[Pins],
     free: Vec<u8>,
 ) -> Result<Vec<u8>, NoMemory>
-    ensures { IfOk result (λ globals. globals.items ≡ chosen_from index.now.chip.now free.items pins.now) }
+    ensures { IfOk result (λ globals.
+        globals.items ≡ chosen_from index.now.chip.now free.items pins.now) }
 {
     let mut free = free;
     let mut taken = Vec::new(alloc);
@@ -187,7 +188,8 @@ pub fn globals_of(
     design: &Design,
     ports: &[Chosen],
 ) -> Result<Taken, PinFault>
-    ensures { Answers result (globals_of index.now.chip.now (buffers design.now (chosen_pads ports.now))) }
+    ensures { Answers result
+        (globals_of index.now.chip.now (buffers design.now (chosen_pads ports.now))) }
 {
     let buffers = buffers(alloc, design, ports)?;
     let direct = direct_choices(alloc, index, &buffers)?;

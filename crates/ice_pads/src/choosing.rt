@@ -48,7 +48,8 @@ fn first_fit(
     ensures found { option_and_then (slice_get pads.now) result
         ≡ find (is_fit chip.now tables.now.given.items progress.now.chosen.items want) pads.now }
     ensures passed { IfSome result (λ place. (place < length pads.now)
-        × (list_any (is_fit chip.now tables.now.given.items progress.now.chosen.items want) (take place pads.now)
+        × (list_any (is_fit chip.now tables.now.given.items progress.now.chosen.items want)
+        (take place pads.now)
         ≡ false)) }
 {
     for place in progress.starts[kind_of(want)]..pads.len() {
@@ -71,7 +72,9 @@ fn choose_free(
 ) -> Result<(), PinFault>
     requires kept { AreKept tables.now }
     requires done { AreDone chip.now pads.now tables.now.given.items progress.old }
-    ensures chosen { Extends result progress.new.chosen.items (with_next progress.old.chosen.items (by_free netlist.now (length progress.old.chosen.items) want (find (is_fit chip.now tables.now.given.items progress.old.chosen.items want) pads.now))) }
+    ensures chosen { Extends result progress.new.chosen.items (with_next progress.old.chosen.items
+        (by_free netlist.now (length progress.old.chosen.items) want
+        (find (is_fit chip.now tables.now.given.items progress.old.chosen.items want) pads.now))) }
     ensures done { OnOk result (AreDone chip.now pads.now tables.now.given.items progress.new) }
 {
     let Some(place) = first_fit(chip, pads, tables, progress, want) else {
@@ -98,7 +101,9 @@ fn choose(
 ) -> Result<(), PinFault>
     requires kept { AreKept tables.now }
     requires done { AreDone chip.now pads.now tables.now.given.items progress.old }
-    ensures chosen { Extends result progress.new.chosen.items (with_next progress.old.chosen.items (next_chosen chip.now pads.now netlist.now tables.now.given.items progress.old.chosen.items want)) }
+    ensures chosen { Extends result progress.new.chosen.items
+        (with_next progress.old.chosen.items (next_chosen chip.now pads.now netlist.now
+        tables.now.given.items progress.old.chosen.items want)) }
     ensures done { OnOk result (AreDone chip.now pads.now tables.now.given.items progress.new) }
 {
     let Some(given) = tables.of_port(progress.chosen.len()) else {
@@ -123,7 +128,8 @@ pub fn choose_all(
 ) -> Result<(), PinFault>
     requires kept { AreKept tables.now }
     requires done { AreDone chip.now pads.now tables.now.given.items progress.old }
-    ensures { Extends result progress.new.chosen.items (all_chosen chip.now pads.now netlist.now tables.now.given.items progress.old.chosen.items wants.now) }
+    ensures { Extends result progress.new.chosen.items (all_chosen chip.now pads.now netlist.now
+        tables.now.given.items progress.old.chosen.items wants.now) }
 {
     for want in wants {
         choose(alloc, chip, pads, netlist, tables, progress, *want)?;

@@ -138,7 +138,8 @@ pub fn direct_choices(
     index: &Index,
     buffers: &[Buffer],
 ) -> Result<Vec<Option<u8>>, NoMemory>
-    ensures { IfOk result (λ taken. taken.items ≡ direct_choices index.now.chip.now [] buffers.now) }
+    ensures { IfOk result (λ taken.
+        taken.items ≡ direct_choices index.now.chip.now [] buffers.now) }
 {
     let mut taken = Vec::new(alloc);
     for buffer in buffers {

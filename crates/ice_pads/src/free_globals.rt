@@ -1,7 +1,7 @@
 //! The globals of a chip that can be taken.
 ghost use Rattle.std.specs.Prelude.{◌≡◌, ◌<◌, ◌≤◌, filter, length, option_map, IfOk};
 ghost use Rattle.ice_chip.specs.Lookups.{wire_named};
-ghost use Rattle.ice_chip.specs.Names.{clock_enable_name, set_reset_name};
+ghost use Rattle.ice_chip.specs.WireNames.{clock_enable_name, set_reset_name};
 ghost use Rattle.ice_pads.specs.Constraints.{first_passing};
 ghost use Rattle.ice_pads.specs.Globals.{has_name, global_wire, is_same_tile, is_fed, some_lower, is_global, globals, is_joined_to, is_logic_kind, reaches, serves};
 
@@ -27,7 +27,8 @@ fn has_name(chip: &Chip, name: &[u8], wire: WireNo) -> bool
 
 // The least wire that has the name.
 fn first_named(chip: &Chip, name: &[u8]) -> Option<WireNo>
-    ensures { option_map (λ w. w.0) result ≡ first_passing (has_name chip.now name.now) 0 chip.now.wires }
+    ensures { option_map (λ w. w.0) result
+        ≡ first_passing (has_name chip.now name.now) 0 chip.now.wires }
 {
     for wire in 0..chip.wires() {
         if has_name(chip, name, WireNo(wire)) {
@@ -129,7 +130,8 @@ pub fn globals(chip: &Chip) -> u32
 
 // Whether a usable row leads from the one wire to the other, where both are there.
 fn is_joined_to(index: &Index, source: Option<WireNo>, target: Option<WireNo>) -> bool
-    ensures { result ≡ is_joined_to index.now.chip.now (option_map (λ w. w.0) source) (option_map (λ w. w.0) target) }
+    ensures { result ≡ is_joined_to index.now.chip.now (option_map (λ w. w.0) source)
+        (option_map (λ w. w.0) target) }
 {
     match (source, target) {
         (Some(source), Some(target)) => is_joined(index, source, target),

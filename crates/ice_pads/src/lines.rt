@@ -69,7 +69,8 @@ fn give_line(
     port: Option<usize>,
 ) -> Result<(), PinFault>
     requires { AreKept tables.old }
-    ensures given { Extends result tables.new.given.items (by_port chip.now pins.now.entries netlist.now wants.now tables.old.given.items line.now port) }
+    ensures given { Extends result tables.new.given.items (by_port chip.now pins.now.entries
+        netlist.now wants.now tables.old.given.items line.now port) }
     ensures kept { OnOk result (AreKept tables.new) }
 {
     let Some(port) = port else {
@@ -103,7 +104,8 @@ pub fn give_all(
     lines: &[Constraint],
 ) -> Result<(), PinFault>
     requires { AreKept tables.old }
-    ensures given { Extends result tables.new.given.items (given_by chip.now pins.now.entries netlist.now wants.now tables.old.given.items lines.now) }
+    ensures given { Extends result tables.new.given.items (given_by chip.now pins.now.entries
+        netlist.now wants.now tables.old.given.items lines.now) }
     ensures kept { OnOk result (AreKept tables.new) }
 {
     let places = places_of(alloc, netlist.ports())?;

@@ -10,7 +10,8 @@ use std::alloc::Global;
 
 // Makes room for the place of a signal's port.
 fn reach(places: &mut Vec<Option<usize>>, signal: SignalNo) -> Result<(), NoMemory>
-    ensures same { (s : ℕ) → slice_index_or places.new.items s None ≡ slice_index_or places.old.items s None }
+    ensures same { (s : ℕ)
+        → slice_index_or places.new.items s None ≡ slice_index_or places.old.items s None }
     ensures room { OnOk result (signal.0 < length places.new.items) }
 {
     let index = signal.0 as usize;
@@ -22,8 +23,8 @@ fn reach(places: &mut Vec<Option<usize>>, signal: SignalNo) -> Result<(), NoMemo
 
 // Notes the place of a signal's port, unless one is noted before.
 fn note(places: &mut Vec<Option<usize>>, signal: SignalNo, place: usize) -> Result<(), NoMemory>
-    ensures { OnOk result ((s : ℕ) → slice_index_or places.new.items s None
-        ≡ option_or (slice_index_or places.old.items s None) (if signal.0 == s then Some place else None)) }
+    ensures { OnOk result ((s : ℕ) → slice_index_or places.new.items s None ≡ option_or
+        (slice_index_or places.old.items s None) (if signal.0 == s then Some place else None)) }
 {
     reach(places, signal)?;
     let index = signal.0 as usize;

@@ -44,7 +44,8 @@ impl Progress {
     /// No port has anything. Takes no memory.
     pub fn new(alloc: Global) -> Progress
         ensures chosen { result.chosen.items ≡ [] }
-        ensures done { (parts : Parts) (pads : List Pad) (given : List Given) → AreDone parts pads given result }
+        ensures done { (parts : Parts) (pads : List Pad) (given : List Given)
+            → AreDone parts pads given result }
     {
         Progress {
             chosen: Vec::new(alloc),

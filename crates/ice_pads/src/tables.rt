@@ -27,7 +27,8 @@ pub struct Tables {
 
 // Makes room for what a port gets.
 fn reach(ports: &mut Vec<Option<Given>>, index: usize) -> Result<(), NoMemory>
-    ensures same { (s : ℕ) → slice_index_or ports.new.items s None ≡ slice_index_or ports.old.items s None }
+    ensures same { (s : ℕ)
+        → slice_index_or ports.new.items s None ≡ slice_index_or ports.old.items s None }
     ensures room { OnOk result (index < length ports.new.items) }
 {
     if index == usize::MAX {
@@ -41,8 +42,8 @@ fn reach(ports: &mut Vec<Option<Given>>, index: usize) -> Result<(), NoMemory>
 
 // Notes what a port gets, unless it has something.
 fn note_port(ports: &mut Vec<Option<Given>>, given: Given) -> Result<(), NoMemory>
-    ensures { OnOk result ((s : ℕ) → slice_index_or ports.new.items s None
-        ≡ option_or (slice_index_or ports.old.items s None) (if given.port == s then Some given else None)) }
+    ensures { OnOk result ((s : ℕ) → slice_index_or ports.new.items s None ≡ option_or
+        (slice_index_or ports.old.items s None) (if given.port == s then Some given else None)) }
 {
     reach(ports, given.port)?;
     if ports[given.port].is_none() {
@@ -53,8 +54,8 @@ fn note_port(ports: &mut Vec<Option<Given>>, given: Given) -> Result<(), NoMemor
 
 // Notes who gets a pad, unless someone has it.
 fn note_pad(pads: &mut HashMap<Pad, Given>, given: Given) -> Result<(), NoMemory>
-    ensures { OnOk result ((p : Pad) → get_by (same_pad p) pads.new
-        ≡ option_or (get_by (same_pad p) pads.old) (if same_pad p given.pad then Some given else None)) }
+    ensures { OnOk result ((p : Pad) → get_by (same_pad p) pads.new ≡ option_or
+        (get_by (same_pad p) pads.old) (if same_pad p given.pad then Some given else None)) }
 {
     if pads.get(&given.pad).is_none() {
         pads.insert(given.pad, given)?;

@@ -13,7 +13,7 @@ use Rattle.ice_net.specs.Limits.{most_signals}
 use Rattle.ice_chip.specs.Database.{Parts}
 use Rattle.ice_chip.specs.Lookups.{package_of}
 use Rattle.ice_pcf.specs.declared.constraint.Constraint.{Constraint}
-use Rattle.ice_cells.specs.Packed.{Plan, plan_of, global_by}
+use Rattle.ice_cells.specs.Packed.{PackPlan, plan_of, global_by}
 use Rattle.ice_cells.specs.Packed as packs
 use Rattle.ice_cells.specs.Runs.{design_of}
 use Rattle.ice_pads.specs.Globals.{globals}
@@ -29,7 +29,7 @@ use Rattle.ice_pads_promote_laws.proofs.Wanted.{wants_same}
 abbrev is_buffer_cell : Cell → Bool
 is_buffer_cell cell = is_buffer cell.kind
 
-one_is : (p : Plan) (kind : CellKind) (ins : List (Option SignalNo)) (rest : ℕ) → length (global_by p kind ins) + rest ≡ cond (is_buffer kind) (1 + rest) rest
+one_is : (p : PackPlan) (kind : CellKind) (ins : List (Option SignalNo)) (rest : ℕ) → length (global_by p kind ins) + rest ≡ cond (is_buffer kind) (1 + rest) rest
 one_is p (Lut t) ins rest = omega arith
 one_is p (Cover t width) ins rest = omega arith
 one_is p Carry ins rest = omega arith
@@ -37,7 +37,7 @@ one_is p (Flop falling enable reset) ins rest = omega arith
 one_is p (PadCell pin_type pullup) ins rest = omega arith
 one_is p Global ins rest = omega arith
 
-count_is : (p : Plan) (cells : List Cell) → length (packs.globals_of p cells) ≡ count_by is_buffer_cell cells
+count_is : (p : PackPlan) (cells : List Cell) → length (packs.globals_of p cells) ≡ count_by is_buffer_cell cells
 count_is p = is_count_by (λ cells. length (packs.globals_of p cells)) is_buffer_cell refl
     (λ cell cells. length-append (global_by p cell.kind cell.ins) (packs.globals_of p cells) ∙ one_is p cell.kind cell.ins (length (packs.globals_of p cells)))
 

@@ -14,7 +14,8 @@ use Rattle.ice_net.specs.declared.port.Port.{Port}
 use Rattle.ice_net.specs.declared.port.Way.{Way}
 use Rattle.ice_net.specs.declared.port.Way.TheVariants.{Input, Output, Both}
 use Rattle.ice_net.specs.Drivers.{buffer_at}
-use Rattle.ice_net.specs.Drives.{output_type, enabled_type, data_of, enable_of, pad_uses}
+use Rattle.ice_net.specs.Drives.{output_type, enabled_type}
+use Rattle.ice_net.specs.Uses.{data_of, enable_of, pad_uses}
 use Rattle.ice_net.specs.Formed.{IsBelow, IsPortBelow, IsFormedCell, IsFormed}
 use Rattle.ice_net.specs.NetlistData.{NetlistData}
 use Rattle.ice_cells.specs.declared.origin.Origin.{Origin}

@@ -15,7 +15,8 @@ use ice_graph::{Edge, Graph};
 
 // The first of the rows whose source has this label.
 fn first_from(rows: &[Edge], labels: &[Option<u64>], cost: u64) -> Option<Edge>
-    requires within { (k : ℕ) (e : GraphEdge) → slice_get rows.now k ≡ Some e → e.from.0 < length labels.now }
+    requires within { (k : ℕ) (e : GraphEdge) → slice_get rows.now k ≡ Some e
+        → e.from.0 < length labels.now }
     ensures { IsFirstFrom labels.now cost rows.now result }
 {
     for row in rows {
@@ -36,14 +37,17 @@ fn step_back(
     cost: u64,
 ) -> (Edge, u64)
     requires prices { ArePrices prices.now }
-    requires lengths { (length prices.now.history.items ≡ graph.now.wires) × (length labels.now ≡ graph.now.wires) }
+    requires lengths { (length prices.now.history.items ≡ graph.now.wires)
+        × (length labels.now ≡ graph.now.wires) }
     requires wire { wire < graph.now.wires }
     requires label { IsLabel graph.now.edges (price prices.now) tree.now wire cost }
-    requires exact { AreExactBehind graph.now.edges (price prices.now) tree.now labels.now wire cost }
+    requires exact { AreExactBehind graph.now.edges (price prices.now) tree.now labels.now
+        wire cost }
     requires positive { 0 < cost }
     ensures step { IsStepBack graph.now.edges (price prices.now) tree.now wire result.0 }
     ensures source { IsLabel graph.now.edges (price prices.now) tree.now result.0.from.0 result.1 }
-    ensures exact { AreExactBehind graph.now.edges (price prices.now) tree.now labels.now result.0.from.0 result.1 }
+    ensures exact { AreExactBehind graph.now.edges (price prices.now) tree.now labels.now
+        result.0.from.0 result.1 }
     ensures labelled { label labels.now result.0.from.0 ≡ Some result.1 }
     ensures less { result.1 < cost }
     ensures within { result.0.from.0 < graph.now.wires }
@@ -67,10 +71,12 @@ fn walk_back(
     path: &mut Vec<Edge>,
 )
     requires prices { ArePrices prices.now }
-    requires lengths { (length prices.now.history.items ≡ graph.now.wires) × (length labels.now ≡ graph.now.wires) }
+    requires lengths { (length prices.now.history.items ≡ graph.now.wires)
+        × (length labels.now ≡ graph.now.wires) }
     requires target { target < graph.now.wires }
     requires label { IsLabel graph.now.edges (price prices.now) tree.now target cost }
-    requires exact { AreExactBehind graph.now.edges (price prices.now) tree.now labels.now target cost }
+    requires exact { AreExactBehind graph.now.edges (price prices.now) tree.now labels.now
+        target cost }
     requires path { path.old.items ≡ [] }
     requires space { graph.now.wires ≤ vec_capacity path.old }
     ensures taken { IsTaken graph.now.edges (price prices.now) tree.now target path.new.items }
@@ -110,10 +116,13 @@ fn taken_target(
 ) -> WireNo
     requires lengths { length labels.now ≡ graph.now.wires }
     requires targets { AreWires graph.now.wires aim.now.targets.now }
-    requires aim { IsAim graph.now.edges (price prices.now) aim.now.targets.now (bound_in graph.now aim.now) (leads aim.now) }
+    requires aim { IsAim graph.now.edges (price prices.now) aim.now.targets.now
+        (bound_in graph.now aim.now) (leads aim.now) }
     requires cost { IsCostTo graph.now.edges (price prices.now) tree.now aim.now.targets.now cost }
-    requires exact { AreExact graph.now.edges (price prices.now) tree.now (bound_in graph.now aim.now) cost labels.now }
-    ensures { IsTargetTaken graph.now.edges (price prices.now) tree.now aim.now.targets.now result cost }
+    requires exact { AreExact graph.now.edges (price prices.now) tree.now
+        (bound_in graph.now aim.now) cost labels.now }
+    ensures { IsTargetTaken graph.now.edges (price prices.now) tree.now aim.now.targets.now
+        result cost }
 {
     let (_graph, _prices, _tree) = (graph, prices, tree);
     let Some(target) = first_labelled(aim.targets, labels, cost) else {
@@ -133,14 +142,19 @@ pub fn take_path(
     path: &mut Vec<Edge>,
 )
     requires prices { ArePrices prices.now }
-    requires lengths { (length prices.now.history.items ≡ graph.now.wires) × (length labels.now ≡ graph.now.wires) }
+    requires lengths { (length prices.now.history.items ≡ graph.now.wires)
+        × (length labels.now ≡ graph.now.wires) }
     requires targets { AreWires graph.now.wires aim.now.targets.now }
-    requires aim { IsAim graph.now.edges (price prices.now) aim.now.targets.now (bound_in graph.now aim.now) (leads aim.now) }
-    requires cost { IfSome cost (IsCostTo graph.now.edges (price prices.now) tree.now aim.now.targets.now) }
-    requires exact { IfSome cost (λ c. AreExact graph.now.edges (price prices.now) tree.now (bound_in graph.now aim.now) c labels.now) }
+    requires aim { IsAim graph.now.edges (price prices.now) aim.now.targets.now
+        (bound_in graph.now aim.now) (leads aim.now) }
+    requires cost { IfSome cost
+        (IsCostTo graph.now.edges (price prices.now) tree.now aim.now.targets.now) }
+    requires exact { IfSome cost (λ c. AreExact graph.now.edges (price prices.now) tree.now
+        (bound_in graph.now aim.now) c labels.now) }
     requires path { path.old.items ≡ [] }
     requires space { graph.now.wires ≤ vec_capacity path.old }
-    ensures taken { OnSome cost (IsTakenTo graph.now.edges (price prices.now) tree.now aim.now.targets.now path.new.items) }
+    ensures taken { OnSome cost
+        (IsTakenTo graph.now.edges (price prices.now) tree.now aim.now.targets.now path.new.items) }
     ensures space { vec_capacity path.new ≡ vec_capacity path.old }
 {
     let Some(cost) = cost else {

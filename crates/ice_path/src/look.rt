@@ -36,7 +36,8 @@ fn wait(prices: &Prices, near: &mut [Option<u64>], queue: &mut Queue, wire: Wire
     requires order { IsQueue queue.old }
     requires room { queue_len queue.old < queue.old.room }
     ensures near { near.new ≡ slice_set near.old wire.0 (Some cost) }
-    ensures waits { (settled : List Bool) → Queues (price prices.now) settled near.old queue.old → Queues (price prices.now) settled near.new queue.new }
+    ensures waits { (settled : List Bool) → Queues (price prices.now) settled near.old queue.old
+        → Queues (price prices.now) settled near.new queue.new }
     ensures order { IsQueue queue.new }
     ensures len { queue_len queue.new ≡ queue_len queue.old + 1 }
     ensures capacity { queue.new.room ≡ queue.old.room }
@@ -60,11 +61,13 @@ fn meet(
     requires within { wire.0 < length near.old }
     requires cost { cost ≤ 64 * MOST_PRICE }
     requires order { IsQueue queue.old }
-    requires room { (queue_len queue.old ≤ length marked.old.items) × (length near.old ≤ queue.old.room) }
+    requires room { (queue_len queue.old ≤ length marked.old.items)
+        × (length near.old ≤ queue.old.room) }
     requires touches { Touches near.old marked.old.items }
     requires space { length near.old ≤ vec_capacity marked.old }
     ensures meets { Meets near.old near.new wire.0 cost }
-    ensures waits { (settled : List Bool) → Queues (price prices.now) settled near.old queue.old → Queues (price prices.now) settled near.new queue.new }
+    ensures waits { (settled : List Bool) → Queues (price prices.now) settled near.old queue.old
+        → Queues (price prices.now) settled near.new queue.new }
     ensures order { IsQueue queue.new }
     ensures room { queue_len queue.new ≤ length marked.new.items }
     ensures capacity { queue.new.room ≡ queue.old.room }
@@ -121,14 +124,17 @@ fn widen(
 )
     requires prices { ArePrices prices.now }
     requires lengths { length prices.now.history.items ≡ length near.old }
-    requires rows { (k : ℕ) (e : GraphEdge) → slice_get rows.now k ≡ Some e → e.from.0 < length near.old }
+    requires rows { (k : ℕ) (e : GraphEdge) → slice_get rows.now k ≡ Some e
+        → e.from.0 < length near.old }
     requires cost { cost ≤ 64 * MOST_PRICE }
     requires order { IsQueue queue.old }
-    requires room { (queue_len queue.old ≤ length marked.old.items) × (length near.old ≤ queue.old.room) }
+    requires room { (queue_len queue.old ≤ length marked.old.items)
+        × (length near.old ≤ queue.old.room) }
     requires touches { Touches near.old marked.old.items }
     requires space { length near.old ≤ vec_capacity marked.old }
     ensures widens { Widens rows.now cost (length rows.now) near.old near.new }
-    ensures waits { (settled : List Bool) → Queues (price prices.now) settled near.old queue.old → Queues (price prices.now) settled near.new queue.new }
+    ensures waits { (settled : List Bool) → Queues (price prices.now) settled near.old queue.old
+        → Queues (price prices.now) settled near.new queue.new }
     ensures order { IsQueue queue.new }
     ensures room { queue_len queue.new ≤ length marked.new.items }
     ensures capacity { queue.new.room ≡ queue.old.room }
@@ -152,16 +158,19 @@ fn look(
     queue: &mut Queue,
 ) -> u64
     requires prices { ArePrices prices.now }
-    requires lengths { (length prices.now.history.items ≡ graph.now.wires) × (length near.old ≡ graph.now.wires) × (length settled.old ≡ graph.now.wires) }
+    requires lengths { (length prices.now.history.items ≡ graph.now.wires)
+        × (length near.old ≡ graph.now.wires) × (length settled.old ≡ graph.now.wires) }
     requires few { widened ≤ 63 }
     requires spreads { Spreads graph.now.edges (price prices.now) 1 near.old settled.old }
     requires order { IsQueue queue.old }
-    requires room { (queue_len queue.old ≤ length marked.old.items) × (graph.now.wires ≤ queue.old.room) }
+    requires room { (queue_len queue.old ≤ length marked.old.items)
+        × (graph.now.wires ≤ queue.old.room) }
     requires touches { Touches near.old marked.old.items }
     requires space { graph.now.wires ≤ vec_capacity marked.old }
     requires waits { Queues (price prices.now) settled.old near.old queue.old }
     ensures spreads { Spreads graph.now.edges (price prices.now) result near.new settled.new }
-    ensures led { (targets : List Wire) (rest : ℕ → Option ℕ) → RestFalls graph.now.edges rest → AreLed targets rest near.old → AreLed targets rest near.new }
+    ensures led { (targets : List Wire) (rest : ℕ → Option ℕ) → RestFalls graph.now.edges rest
+        → AreLed targets rest near.old → AreLed targets rest near.new }
     ensures some { 1 ≤ result }
     ensures small { result ≤ 64 * MOST_PRICE }
     ensures order { IsQueue queue.new }
@@ -201,14 +210,20 @@ fn note_one(
 )
     requires prices { ArePrices prices.now }
     requires guides { AreWires graph.now.wires way.now.guides.now }
-    requires lengths { (length prices.now.history.items ≡ graph.now.wires) × (length near.now ≡ graph.now.wires) × (length settled.now ≡ graph.now.wires) }
+    requires lengths { (length prices.now.history.items ≡ graph.now.wires)
+        × (length near.now ≡ graph.now.wires) × (length settled.now ≡ graph.now.wires) }
     requires small { (w c : ℕ) → label near.now w ≡ Some c → c ≤ 64 * MOST_PRICE }
     requires wire { wire < graph.now.wires }
     requires long { length beyond.old ≡ 64 }
     ensures long { length beyond.new ≡ 64 }
-    ensures here { (c k : ℕ) → done settled.now wire ≡ false → label near.now wire ≡ Some c → rest graph.now way.now.hops.now way.now.guides.now wire ≡ Some k → slice_index beyond.new (min (k + 1) 63) ≤ c + price prices.now wire }
+    ensures here { (c k : ℕ) → done settled.now wire ≡ false → label near.now wire ≡ Some c
+        → rest graph.now way.now.hops.now way.now.guides.now wire ≡ Some k
+        → slice_index beyond.new (min (k + 1) 63) ≤ c + price prices.now wire }
     ensures lower { (k : ℕ) → slice_index beyond.new k ≤ slice_index beyond.old k }
-    ensures far { (far : ℕ) → AreFar far beyond.old → ((w c : ℕ) → done settled.now w ≡ false → label near.now w ≡ Some c → far ≤ c + price prices.now w) → AreFar far beyond.new }
+    ensures far { (far : ℕ) → AreFar far beyond.old
+        → ((w c : ℕ) → done settled.now w ≡ false → label near.now w ≡ Some c
+        → far ≤ c + price prices.now w)
+        → AreFar far beyond.new }
 {
     if settled[wire as usize] {
         return;
@@ -236,14 +251,19 @@ fn note(
 )
     requires prices { ArePrices prices.now }
     requires guides { AreWires graph.now.wires way.now.guides.now }
-    requires lengths { (length prices.now.history.items ≡ graph.now.wires) × (length near.now ≡ graph.now.wires) × (length settled.now ≡ graph.now.wires) }
+    requires lengths { (length prices.now.history.items ≡ graph.now.wires)
+        × (length near.now ≡ graph.now.wires) × (length settled.now ≡ graph.now.wires) }
     requires small { (w c : ℕ) → label near.now w ≡ Some c → c ≤ 64 * MOST_PRICE }
     requires marked { All (λ w. w < length near.now) marked.now }
     requires long { length beyond.old ≡ 64 }
     ensures long { length beyond.new ≡ 64 }
-    ensures reach { Reaches marked.now (length marked.now) (price prices.now) (rest graph.now way.now.hops.now way.now.guides.now) near.now settled.now beyond.new }
+    ensures reach { Reaches marked.now (length marked.now) (price prices.now)
+        (rest graph.now way.now.hops.now way.now.guides.now) near.now settled.now beyond.new }
     ensures lower { (k : ℕ) → slice_index beyond.new k ≤ slice_index beyond.old k }
-    ensures far { (far : ℕ) → AreFar far beyond.old → ((w c : ℕ) → done settled.now w ≡ false → label near.now w ≡ Some c → far ≤ c + price prices.now w) → AreFar far beyond.new }
+    ensures far { (far : ℕ) → AreFar far beyond.old
+        → ((w c : ℕ) → done settled.now w ≡ false → label near.now w ≡ Some c
+        → far ≤ c + price prices.now w)
+        → AreFar far beyond.new }
 {
     for wire in marked {
         note_one(graph, prices, way, near, settled, *wire, beyond);
@@ -271,7 +291,8 @@ fn level_up(beyond: &mut [u64])
     requires rises { (k : ℕ) → k < 63 → slice_index beyond.old k ≤ slice_index beyond.old (k + 1) }
     ensures long { length beyond.new ≡ 64 }
     ensures rises { (k : ℕ) → k < 63 → slice_index beyond.new k ≤ slice_index beyond.new (k + 1) }
-    ensures slope { (k : ℕ) → k < 63 → slice_index beyond.new (k + 1) ≤ slice_index beyond.new k + 1 }
+    ensures slope { (k : ℕ) → k < 63
+        → slice_index beyond.new (k + 1) ≤ slice_index beyond.new k + 1 }
     ensures lower { (k : ℕ) → slice_index beyond.new k ≤ slice_index beyond.old k }
     ensures far { (far : ℕ) → AreFar far beyond.old → AreFar far beyond.new }
 {
@@ -305,7 +326,8 @@ pub fn look_back(
     queue: &mut Queue,
 )
     requires prices { ArePrices prices.now }
-    requires lengths { (length prices.now.history.items ≡ graph.now.wires) × (length near.old ≡ graph.now.wires) × (length settled.old ≡ graph.now.wires) }
+    requires lengths { (length prices.now.history.items ≡ graph.now.wires)
+        × (length near.old ≡ graph.now.wires) × (length settled.old ≡ graph.now.wires) }
     requires targets { AreWires graph.now.wires way.now.targets.now }
     requires guides { AreWires graph.now.wires way.now.guides.now }
     requires hops { AreHops graph.now.edges way.now.targets.now way.now.hops.now }
@@ -317,9 +339,12 @@ pub fn look_back(
     requires long { length beyond.old ≡ 64 }
     requires queue { IsEmpty queue.old × (queue_len queue.old ≡ 0) × IsQueue queue.old }
     requires room { graph.now.wires + length graph.now.edges ≤ queue.old.room }
-    ensures knows { Knows graph.now.edges (price prices.now) way.now.targets.now near.new (rest graph.now way.now.hops.now way.now.guides.now) (beyond_at beyond.new) }
-    ensures small { ((w c : ℕ) → label near.new w ≡ Some c → c ≤ 64 * MOST_PRICE) × ((k : ℕ) → slice_index beyond.new k ≤ 64 * MOST_PRICE) }
-    ensures long { (length near.new ≡ length near.old) × (length settled.new ≡ length settled.old) × (length beyond.new ≡ 64) }
+    ensures knows { Knows graph.now.edges (price prices.now) way.now.targets.now near.new
+        (rest graph.now way.now.hops.now way.now.guides.now) (beyond_at beyond.new) }
+    ensures small { ((w c : ℕ) → label near.new w ≡ Some c → c ≤ 64 * MOST_PRICE)
+        × ((k : ℕ) → slice_index beyond.new k ≤ 64 * MOST_PRICE) }
+    ensures long { (length near.new ≡ length near.old) × (length settled.new ≡ length settled.old)
+        × (length beyond.new ≡ 64) }
     ensures settled { (w : ℕ) → done settled.new w ≡ false }
     ensures labelled { (w c : ℕ) → label near.new w ≡ Some c → Contains marked.new.items w }
     ensures within { All (λ w. w < graph.now.wires) marked.new.items }

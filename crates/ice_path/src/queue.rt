@@ -78,7 +78,8 @@ fn enlist(heads: &mut [usize], entries: &mut Vec<Waiting>, sum: usize, wire: u32
     requires sum { sum < 1024 }
     requires room { length entries.old.items < vec_capacity entries.old }
     ensures heads { heads.new ≡ slice_set heads.old sum (length entries.old.items + 1) }
-    ensures entries { entries.new.items ≡ entries.old.items ++ record { wire = wire; behind = slice_index heads.old sum } ∷ [] }
+    ensures entries { entries.new.items
+        ≡ entries.old.items ++ record { wire = wire; behind = slice_index heads.old sum } ∷ [] }
     ensures lists { AreLists heads.new entries.new.items }
     ensures capacity { vec_capacity entries.new ≡ vec_capacity entries.old }
 {
@@ -147,8 +148,10 @@ fn first_listed(
 ) -> Option<(usize, u32, usize)>
     requires lists { AreLists heads.now entries.now }
     requires within { (s w : ℕ) → Listed heads.now entries.now s w → w < length settled.now }
-    ensures some { IfSome result (λ r. IsFirstListed heads.now entries.now settled.now low r.0 r.1 r.2) }
-    ensures none { IfNone result ((s w : ℕ) → low ≤ s → Listed heads.now entries.now s w → done settled.now w ≡ true) }
+    ensures some { IfSome result (λ r.
+        IsFirstListed heads.now entries.now settled.now low r.0 r.1 r.2) }
+    ensures none { IfNone result
+        ((s w : ℕ) → low ≤ s → Listed heads.now entries.now s w → done settled.now w ≡ true) }
 {
     for sum in low..1024 {
         if let Some((wire, behind)) = first_open(entries, settled, heads[sum]) {
@@ -162,7 +165,8 @@ fn first_listed(
 fn pop_far(far: &mut Far) -> Option<(u32, u64)>
     requires order { IsHeap sooner (heap_items far.old) }
     ensures order { IsHeap sooner (heap_items far.new) }
-    ensures items { IfSome result (λ r. IsPermutation (heap_items far.old) (entry r.1 r.0 ∷ heap_items far.new)) }
+    ensures items { IfSome result (λ r.
+        IsPermutation (heap_items far.old) (entry r.1 r.0 ∷ heap_items far.new)) }
     ensures least { IfSome result (λ r. IsUpperBound sooner (entry r.1 r.0) (heap_items far.old)) }
     ensures none { IfNone result (heap_items far.old ≡ []) }
     ensures len { OnSome result (heap_len far.new + 1 ≡ heap_len far.old) }
@@ -180,9 +184,12 @@ fn next_far(far: &mut Far, settled: &[bool]) -> Option<(u32, u64)>
     requires order { IsHeap sooner (heap_items far.old) }
     requires within { All (λ (x : Entry). x.1 < length settled.now) (heap_items far.old) }
     ensures order { IsHeap sooner (heap_items far.new) }
-    ensures some { IfSome result (λ r. IsFirstFar settled.now (heap_items far.old) (heap_items far.new) r.1 r.0) }
-    ensures none { IfNone result ((t v : ℕ) → Contains (heap_items far.old) (entry t v) → done settled.now v ≡ true) }
-    ensures only { (t v : ℕ) → Contains (heap_items far.new) (entry t v) → Contains (heap_items far.old) (entry t v) }
+    ensures some { IfSome result (λ r.
+        IsFirstFar settled.now (heap_items far.old) (heap_items far.new) r.1 r.0) }
+    ensures none { IfNone result
+        ((t v : ℕ) → Contains (heap_items far.old) (entry t v) → done settled.now v ≡ true) }
+    ensures only { (t v : ℕ) → Contains (heap_items far.new) (entry t v)
+        → Contains (heap_items far.old) (entry t v) }
     ensures shorter { heap_len far.new ≤ heap_len far.old }
     ensures capacity { heap_capacity far.new ≡ heap_capacity far.old }
 {
@@ -202,8 +209,11 @@ pub fn next_waiting(queue: &mut Queue, settled: &[bool]) -> Option<(u32, u64)>
     requires order { IsQueue queue.old }
     requires within { (s w : ℕ) → Waits queue.old s w → w < length settled.now }
     ensures order { IsQueue queue.new }
-    ensures least { (bound : ℕ → ℕ) (labels : List (Option ℕ)) → length settled.now ≡ length labels → Queues bound settled.now labels queue.old → IsLeastOpen bound labels settled.now result }
-    ensures waits { (bound : ℕ → ℕ) (labels : List (Option ℕ)) → length settled.now ≡ length labels → Queues bound settled.now labels queue.old → IfSome result (λ r. Queues bound (slice_set settled.now r.0 true) labels queue.new) }
+    ensures least { (bound : ℕ → ℕ) (labels : List (Option ℕ)) → length settled.now ≡ length labels
+        → Queues bound settled.now labels queue.old → IsLeastOpen bound labels settled.now result }
+    ensures waits { (bound : ℕ → ℕ) (labels : List (Option ℕ)) → length settled.now ≡ length labels
+        → Queues bound settled.now labels queue.old
+        → IfSome result (λ r. Queues bound (slice_set settled.now r.0 true) labels queue.new) }
     ensures within { IfSome result (λ r. r.0 < length settled.now) }
     ensures shorter { queue_len queue.new ≤ queue_len queue.old }
     ensures room { queue.new.room ≡ queue.old.room }
@@ -231,7 +241,8 @@ pub fn next_open(
     requires waits { Queues (bound_in graph.now aim.now) settled.now labels.now queue.old }
     ensures order { IsQueue queue.new }
     ensures least { IsLeastOpen (bound_in graph.now aim.now) labels.now settled.now result }
-    ensures waits { IfSome result (λ r. Queues (bound_in graph.now aim.now) (slice_set settled.now r.0 true) labels.now queue.new) }
+    ensures waits { IfSome result (λ r.
+        Queues (bound_in graph.now aim.now) (slice_set settled.now r.0 true) labels.now queue.new) }
     ensures within { IfSome result (λ r. r.0 < length labels.now) }
     ensures shorter { queue_len queue.new ≤ queue_len queue.old }
     ensures room { queue.new.room ≡ queue.old.room }

@@ -107,12 +107,15 @@ pub fn connect(
     requires targets { AreWires graph.now.wires targets.now }
     requires some { 0 < length targets.now }
     requires scratch { IsFor graph.now scratch.old }
-    ensures some { IfSome result (IsCostTo graph.now.edges (price prices.now) tree.now.wires.items targets.now) }
+    ensures some { IfSome result
+        (IsCostTo graph.now.edges (price prices.now) tree.now.wires.items targets.now) }
     ensures bound { IfSome result (λ cost. cost + MOST_PRICE + 131071 < 2 ^ 64) }
     ensures none { IfNone result (NoWalkTo graph.now.edges tree.now.wires.items targets.now) }
     ensures found { is_some scratch.new.path ≡ is_some result }
-    ensures path { IfSome scratch.new.path (IsTakenTo graph.now.edges (price prices.now) tree.now.wires.items targets.now) }
-    ensures settled { IfSome result (λ cost. AreSettled graph.now.edges (price prices.now) tree.now.wires.items (least_bound graph.now targets.now) cost scratch.new.settled) }
+    ensures path { IfSome scratch.new.path
+        (IsTakenTo graph.now.edges (price prices.now) tree.now.wires.items targets.now) }
+    ensures settled { IfSome result (λ cost. AreSettled graph.now.edges (price prices.now)
+        tree.now.wires.items (least_bound graph.now targets.now) cost scratch.new.settled) }
     ensures scratch { IsFor graph.now scratch.new }
 {
     graph.is_graph();
@@ -154,11 +157,13 @@ pub fn connect_ahead(
     requires targets { AreWires graph.now.wires targets.now }
     requires some { 0 < length targets.now }
     requires scratch { IsFor graph.now scratch.old }
-    ensures some { IfSome result (IsCostTo graph.now.edges (price prices.now) tree.now.wires.items targets.now) }
+    ensures some { IfSome result
+        (IsCostTo graph.now.edges (price prices.now) tree.now.wires.items targets.now) }
     ensures bound { IfSome result (λ cost. cost + MOST_PRICE + 131071 < 2 ^ 64) }
     ensures none { IfNone result (NoWalkTo graph.now.edges tree.now.wires.items targets.now) }
     ensures found { is_some scratch.new.path ≡ is_some result }
-    ensures path { IfSome scratch.new.path (IsTakenTo graph.now.edges (price prices.now) tree.now.wires.items targets.now) }
+    ensures path { IfSome scratch.new.path
+        (IsTakenTo graph.now.edges (price prices.now) tree.now.wires.items targets.now) }
     ensures scratch { IsFor graph.now scratch.new }
 {
     let least = find_ahead(
@@ -233,7 +238,8 @@ fn no_labels(alloc: Global, wires: usize) -> Result<Vec<Option<u64>>, NoMemory>
 
 // What a search may know of the way, where it knows nothing yet.
 fn ahead_of(alloc: Global, wires: usize) -> Result<Ahead, NoMemory>
-    ensures near { IfOk result (λ a. (length a.near.items ≡ wires) × ((w : ℕ) → label a.near.items w ≡ None)) }
+    ensures near { IfOk result (λ a.
+        (length a.near.items ≡ wires) × ((w : ℕ) → label a.near.items w ≡ None)) }
     ensures marked { IfOk result (λ a. (a.marked.items ≡ []) × (wires ≤ vec_capacity a.marked)) }
     ensures beyond { IfOk result (λ a. length a.beyond.items ≡ 64) }
 {
@@ -275,10 +281,12 @@ fn find(
     path: &mut Vec<Edge>,
 ) -> Option<u64>
     requires prices { ArePrices prices.now }
-    requires lengths { (length prices.now.history.items ≡ graph.now.wires) × (length labels.old ≡ graph.now.wires) × (length settled.old ≡ graph.now.wires) }
+    requires lengths { (length prices.now.history.items ≡ graph.now.wires)
+        × (length labels.old ≡ graph.now.wires) × (length settled.old ≡ graph.now.wires) }
     requires tree { AreWires graph.now.wires tree.now }
     requires fits { Fits graph.now aim.now }
-    requires aim { IsAim graph.now.edges (price prices.now) aim.now.targets.now (bound_in graph.now aim.now) (leads aim.now) }
+    requires aim { IsAim graph.now.edges (price prices.now) aim.now.targets.now
+        (bound_in graph.now aim.now) (leads aim.now) }
     requires labels { (w : ℕ) → label labels.old w ≡ None }
     requires settled { (w : ℕ) → done settled.old w ≡ false }
     requires list { graph.now.wires ≤ vec_capacity order.old }
@@ -287,12 +295,15 @@ fn find(
     requires queue { IsEmpty queue.old × (queue_len queue.old ≡ 0) × IsQueue queue.old }
     requires room { graph.now.wires + length graph.now.edges ≤ queue.old.room }
     requires path { graph.now.wires ≤ vec_capacity path.old }
-    ensures some { IfSome result (IsCostTo graph.now.edges (price prices.now) tree.now aim.now.targets.now) }
+    ensures some { IfSome result
+        (IsCostTo graph.now.edges (price prices.now) tree.now aim.now.targets.now) }
     ensures bound { IfSome result (λ cost. cost ≤ MOST_STEPS * MOST_PRICE) }
-    ensures taken { OnSome result (IsTakenTo graph.now.edges (price prices.now) tree.now aim.now.targets.now path.new.items) }
+    ensures taken { OnSome result
+        (IsTakenTo graph.now.edges (price prices.now) tree.now aim.now.targets.now path.new.items) }
     ensures path { vec_capacity path.new ≡ vec_capacity path.old }
     ensures none { IfNone result (NoWalkTo graph.now.edges tree.now aim.now.targets.now) }
-    ensures listed { IfSome result (λ cost. AreSettled graph.now.edges (price prices.now) tree.now (bound_in graph.now aim.now) cost order.new.items) }
+    ensures listed { IfSome result (λ cost. AreSettled graph.now.edges (price prices.now) tree.now
+        (bound_in graph.now aim.now) cost order.new.items) }
     ensures list { vec_capacity order.new ≡ vec_capacity order.old }
     ensures labels { (w : ℕ) → label labels.new w ≡ None }
     ensures settled { (w : ℕ) → done settled.new w ≡ false }
@@ -332,7 +343,9 @@ fn find_ahead(
     beyond: &mut [u64],
 ) -> Option<u64>
     requires prices { ArePrices prices.now }
-    requires lengths { (length prices.now.history.items ≡ graph.now.wires) × (length labels.old ≡ graph.now.wires) × (length settled.old ≡ graph.now.wires) × (length near.old ≡ graph.now.wires) × (length beyond.old ≡ 64) }
+    requires lengths { (length prices.now.history.items ≡ graph.now.wires)
+        × (length labels.old ≡ graph.now.wires) × (length settled.old ≡ graph.now.wires)
+        × (length near.old ≡ graph.now.wires) × (length beyond.old ≡ 64) }
     requires tree { AreWires graph.now.wires tree.now }
     requires targets { AreWires graph.now.wires targets.now }
     requires some { 0 < length targets.now }
@@ -348,9 +361,11 @@ fn find_ahead(
     requires near { (w : ℕ) → label near.old w ≡ None }
     requires marked { marked.old.items ≡ [] }
     requires marks { graph.now.wires ≤ vec_capacity marked.old }
-    ensures some { IfSome result (IsCostTo graph.now.edges (price prices.now) tree.now targets.now) }
+    ensures some { IfSome result
+        (IsCostTo graph.now.edges (price prices.now) tree.now targets.now) }
     ensures bound { IfSome result (λ cost. cost ≤ MOST_STEPS * MOST_PRICE) }
-    ensures taken { OnSome result (IsTakenTo graph.now.edges (price prices.now) tree.now targets.now path.new.items) }
+    ensures taken { OnSome result
+        (IsTakenTo graph.now.edges (price prices.now) tree.now targets.now path.new.items) }
     ensures path { vec_capacity path.new ≡ vec_capacity path.old }
     ensures none { IfNone result (NoWalkTo graph.now.edges tree.now targets.now) }
     ensures list { vec_capacity order.new ≡ vec_capacity order.old }

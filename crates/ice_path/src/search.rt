@@ -37,7 +37,9 @@ pub fn mark(
     requires room { queue_len queue.old < queue.old.room }
     ensures labels { labels.new ≡ slice_set labels.old wire (Some cost) }
     ensures lowers { Lowers labels.old labels.new wire cost }
-    ensures waits { (settled : List Bool) → Queues (bound_in graph.now aim.now) settled labels.old queue.old → Queues (bound_in graph.now aim.now) settled labels.new queue.new }
+    ensures waits { (settled : List Bool)
+        → Queues (bound_in graph.now aim.now) settled labels.old queue.old
+        → Queues (bound_in graph.now aim.now) settled labels.new queue.new }
     ensures order { IsQueue queue.new }
     ensures len { queue_len queue.new ≡ queue_len queue.old + 1 }
     ensures capacity { queue.new.room ≡ queue.old.room }
@@ -67,7 +69,9 @@ pub fn lower(
     requires touches { Touches labels.old touched.old.items }
     requires space { length labels.old ≤ vec_capacity touched.old }
     ensures lowers { Lowers labels.old labels.new wire cost }
-    ensures waits { (settled : List Bool) → Queues (bound_in graph.now aim.now) settled labels.old queue.old → Queues (bound_in graph.now aim.now) settled labels.new queue.new }
+    ensures waits { (settled : List Bool)
+        → Queues (bound_in graph.now aim.now) settled labels.old queue.old
+        → Queues (bound_in graph.now aim.now) settled labels.new queue.new }
     ensures order { IsQueue queue.new }
     ensures len { queue_len queue.new ≤ queue_len queue.old + 1 }
     ensures capacity { queue.new.room ≡ queue.old.room }
@@ -113,14 +117,20 @@ fn relax_one(
     requires fits { Fits graph.now aim.now }
     requires row { row.to.0 < length labels.old }
     requires prices { ArePrices prices.now }
-    requires lengths { (length prices.now.history.items ≡ length labels.old) × (length settled.now ≡ length labels.old) }
+    requires lengths { (length prices.now.history.items ≡ length labels.old)
+        × (length settled.now ≡ length labels.old) }
     requires cost { cost ≤ MOST_STEPS * MOST_PRICE }
     requires order { IsQueue queue.old }
     requires room { queue_len queue.old < queue.old.room }
     requires touches { Touches labels.old touched.old.items }
     requires space { length labels.old ≤ vec_capacity touched.old }
-    ensures relaxes { (rows : List GraphEdge) (k : ℕ) (first : List (Option ℕ)) → slice_get rows k ≡ Some row → Relaxes rows (price prices.now) (leads aim.now) settled.now cost k first labels.old → Relaxes rows (price prices.now) (leads aim.now) settled.now cost (k + 1) first labels.new }
-    ensures waits { (now : List Bool) → Queues (bound_in graph.now aim.now) now labels.old queue.old → Queues (bound_in graph.now aim.now) now labels.new queue.new }
+    ensures relaxes { (rows : List GraphEdge) (k : ℕ) (first : List (Option ℕ))
+        → slice_get rows k ≡ Some row
+        → Relaxes rows (price prices.now) (leads aim.now) settled.now cost k first labels.old
+        → Relaxes rows (price prices.now) (leads aim.now) settled.now cost (k + 1)
+        first labels.new }
+    ensures waits { (now : List Bool) → Queues (bound_in graph.now aim.now) now labels.old queue.old
+        → Queues (bound_in graph.now aim.now) now labels.new queue.new }
     ensures order { IsQueue queue.new }
     ensures len { queue_len queue.new ≤ queue_len queue.old + 1 }
     ensures capacity { queue.new.room ≡ queue.old.room }
@@ -162,16 +172,19 @@ fn relax(
 )
     requires wires { length labels.old ≡ graph.now.wires }
     requires fits { Fits graph.now aim.now }
-    requires rows { (k : ℕ) (e : GraphEdge) → slice_get rows.now k ≡ Some e → e.to.0 < length labels.old }
+    requires rows { (k : ℕ) (e : GraphEdge) → slice_get rows.now k ≡ Some e
+        → e.to.0 < length labels.old }
     requires prices { ArePrices prices.now }
-    requires lengths { (length prices.now.history.items ≡ length labels.old) × (length settled.now ≡ length labels.old) }
+    requires lengths { (length prices.now.history.items ≡ length labels.old)
+        × (length settled.now ≡ length labels.old) }
     requires cost { cost ≤ MOST_STEPS * MOST_PRICE }
     requires order { IsQueue queue.old }
     requires room { queue_len queue.old + length rows.now ≤ queue.old.room }
     requires touches { Touches labels.old touched.old.items }
     requires space { length labels.old ≤ vec_capacity touched.old }
     requires waits { Queues (bound_in graph.now aim.now) settled.now labels.old queue.old }
-    ensures relaxes { Relaxes rows.now (price prices.now) (leads aim.now) settled.now cost (length rows.now) labels.old labels.new }
+    ensures relaxes { Relaxes rows.now (price prices.now) (leads aim.now) settled.now cost
+        (length rows.now) labels.old labels.new }
     ensures waits { Queues (bound_in graph.now aim.now) settled.now labels.new queue.new }
     ensures order { IsQueue queue.new }
     ensures len { queue_len queue.new ≤ queue_len queue.old + length rows.now }
@@ -200,10 +213,12 @@ fn settle(
     queue: &mut Queue,
 )
     requires prices { ArePrices prices.now }
-    requires lengths { (length prices.now.history.items ≡ graph.now.wires) × (length labels.old ≡ graph.now.wires) × (length settled.old ≡ graph.now.wires) }
+    requires lengths { (length prices.now.history.items ≡ graph.now.wires)
+        × (length labels.old ≡ graph.now.wires) × (length settled.old ≡ graph.now.wires) }
     requires fits { Fits graph.now aim.now }
     requires between { AreBetween graph.now.wires graph.now.edges }
-    requires aim { IsAim graph.now.edges (price prices.now) aim.now.targets.now (bound_in graph.now aim.now) (leads aim.now) }
+    requires aim { IsAim graph.now.edges (price prices.now) aim.now.targets.now
+        (bound_in graph.now aim.now) (leads aim.now) }
     requires next { IsNext (bound_in graph.now aim.now) labels.old settled.old wire cost }
     requires wire { wire < graph.now.wires }
     requires cost { cost ≤ MOST_STEPS * MOST_PRICE }
@@ -211,10 +226,15 @@ fn settle(
     requires room { queue_len queue.old + open_edges settled.old graph.now.edges ≤ queue.old.room }
     requires touches { Touches labels.old touched.old.items }
     requires space { graph.now.wires ≤ vec_capacity touched.old }
-    requires waits { Queues (bound_in graph.now aim.now) (slice_set settled.old wire true) labels.old queue.old }
+    requires waits { Queues (bound_in graph.now aim.now) (slice_set settled.old wire true)
+        labels.old queue.old }
     ensures settled { settled.new ≡ slice_set settled.old wire true }
     ensures fixed { (w : ℕ) → done settled.new w ≡ true → label labels.new w ≡ label labels.old w }
-    ensures searches { (tree : List Wire) (count : ℕ) → Searches graph.now.edges (price prices.now) tree (bound_in graph.now aim.now) (leads aim.now) MOST_PRICE count labels.old settled.old → Searches graph.now.edges (price prices.now) tree (bound_in graph.now aim.now) (leads aim.now) MOST_PRICE (count + 1) labels.new settled.new }
+    ensures searches { (tree : List Wire) (count : ℕ)
+        → Searches graph.now.edges (price prices.now) tree (bound_in graph.now aim.now)
+        (leads aim.now) MOST_PRICE count labels.old settled.old
+        → Searches graph.now.edges (price prices.now) tree (bound_in graph.now aim.now)
+        (leads aim.now) MOST_PRICE (count + 1) labels.new settled.new }
     ensures waits { Queues (bound_in graph.now aim.now) settled.new labels.new queue.new }
     ensures order { IsQueue queue.new }
     ensures room { queue_len queue.new + open_edges settled.new graph.now.edges ≤ queue.new.room }
@@ -282,9 +302,11 @@ pub fn search(
     queue: &mut Queue,
 ) -> Option<u64>
     requires prices { ArePrices prices.now }
-    requires lengths { (length prices.now.history.items ≡ graph.now.wires) × (length labels.old ≡ graph.now.wires) × (length settled.old ≡ graph.now.wires) }
+    requires lengths { (length prices.now.history.items ≡ graph.now.wires)
+        × (length labels.old ≡ graph.now.wires) × (length settled.old ≡ graph.now.wires) }
     requires fits { Fits graph.now aim.now }
-    requires aim { IsAim graph.now.edges (price prices.now) aim.now.targets.now (bound_in graph.now aim.now) (leads aim.now) }
+    requires aim { IsAim graph.now.edges (price prices.now) aim.now.targets.now
+        (bound_in graph.now aim.now) (leads aim.now) }
     requires starts { Starts tree.now (leads aim.now) (length tree.now) labels.old settled.old }
     requires listed { order.old.items ≡ [] }
     requires list { graph.now.wires ≤ vec_capacity order.old }
@@ -293,9 +315,12 @@ pub fn search(
     requires touches { Touches labels.old touched.old.items }
     requires space { graph.now.wires ≤ vec_capacity touched.old }
     requires waits { Queues (bound_in graph.now aim.now) settled.old labels.old queue.old }
-    ensures some { IfSome result (IsCostTo graph.now.edges (price prices.now) tree.now aim.now.targets.now) }
-    ensures exact { IfSome result (λ c. AreExact graph.now.edges (price prices.now) tree.now (bound_in graph.now aim.now) c labels.new) }
-    ensures settled { IfSome result (λ c. AreSettled graph.now.edges (price prices.now) tree.now (bound_in graph.now aim.now) c order.new.items) }
+    ensures some { IfSome result
+        (IsCostTo graph.now.edges (price prices.now) tree.now aim.now.targets.now) }
+    ensures exact { IfSome result (λ c. AreExact graph.now.edges (price prices.now) tree.now
+        (bound_in graph.now aim.now) c labels.new) }
+    ensures settled { IfSome result (λ c. AreSettled graph.now.edges (price prices.now) tree.now
+        (bound_in graph.now aim.now) c order.new.items) }
     ensures bound { IfSome result (λ c. c ≤ MOST_STEPS * MOST_PRICE) }
     ensures length { length labels.new ≡ length labels.old }
     ensures none { IfNone result (NoWalkTo graph.now.edges tree.now aim.now.targets.now) }

@@ -25,11 +25,16 @@ fn root(
     requires fits { Fits graph.now aim.now }
     requires within { wire.0 < length labels.old }
     requires order { IsQueue queue.old }
-    requires room { (queue_len queue.old ≤ length touched.old.items) × (length labels.old ≤ queue.old.room) }
+    requires room { (queue_len queue.old ≤ length touched.old.items)
+        × (length labels.old ≤ queue.old.room) }
     requires touches { Touches labels.old touched.old.items }
     requires space { length labels.old ≤ vec_capacity touched.old }
-    ensures starts { (tree : List Wire) (k : ℕ) (settled : List Bool) → slice_get tree k ≡ Some wire → Starts tree (leads aim.now) k labels.old settled → Starts tree (leads aim.now) (k + 1) labels.new settled }
-    ensures waits { (settled : List Bool) → Queues (bound_in graph.now aim.now) settled labels.old queue.old → Queues (bound_in graph.now aim.now) settled labels.new queue.new }
+    ensures starts { (tree : List Wire) (k : ℕ) (settled : List Bool) → slice_get tree k ≡ Some wire
+        → Starts tree (leads aim.now) k labels.old settled
+        → Starts tree (leads aim.now) (k + 1) labels.new settled }
+    ensures waits { (settled : List Bool)
+        → Queues (bound_in graph.now aim.now) settled labels.old queue.old
+        → Queues (bound_in graph.now aim.now) settled labels.new queue.new }
     ensures order { IsQueue queue.new }
     ensures room { queue_len queue.new ≤ length touched.new.items }
     ensures capacity { queue.new.room ≡ queue.old.room }

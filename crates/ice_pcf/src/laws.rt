@@ -9,8 +9,11 @@ ghost use Rattle.ice_pcf.specs.FirstFault.{HasConstraints, HasFirstFault};
 /// fault exactly where that is the fault of the first line that has one, and the fault names that line. So a text
 /// has constraints or a first fault, and never both.
 pub fn says_constraints_or_first_fault(text: &[u8])
-    ensures constraints { (cs : List Constraint) → (pin_text_says text.now ≡ Ok cs ↔ HasConstraints text.now cs) }
+    ensures constraints { (cs : List Constraint)
+        → (pin_text_says text.now ≡ Ok cs ↔ HasConstraints text.now cs) }
     ensures fault { (f : PcfFault) → (pin_text_says text.now ≡ Err f ↔ HasFirstFault text.now f) }
-    ensures one { ((cs : List Constraint) × HasConstraints text.now cs) ⊎ ((f : PcfFault) × HasFirstFault text.now f) }
-    ensures never_both { (cs : List Constraint) → (f : PcfFault) → HasConstraints text.now cs → HasFirstFault text.now f → ⊥ }
+    ensures one { ((cs : List Constraint) × HasConstraints text.now cs)
+        ⊎ ((f : PcfFault) × HasFirstFault text.now f) }
+    ensures never_both { (cs : List Constraint) → (f : PcfFault) → HasConstraints text.now cs
+        → HasFirstFault text.now f → ⊥ }
 {}

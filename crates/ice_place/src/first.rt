@@ -93,7 +93,8 @@ pub fn first_place(
     requires sites { AreStretches sites.now }
     requires clusters { IsClustering design.now clusters.now }
     ensures answers { Answers result (place_of sites.now clusters.now design.now) }
-    ensures legal { IfOk result (λ placement. IsLegal sites.now (chunks_of clusters.now.list) placement) }
+    ensures legal { IfOk result (λ placement.
+        IsLegal sites.now (chunks_of clusters.now.list) placement) }
 {
     let runs = lengths(alloc, design.runs())?;
     let need = to_u32(clusters.list().len())?;

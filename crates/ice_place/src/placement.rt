@@ -27,13 +27,6 @@ impl Placement {
         Placement { tiles }
     }
 
-    /// The tiles as a Vec.
-    pub fn into_vec(self) -> Vec<TileAt>
-        ensures { result.items ≡ self }
-    {
-        self.tiles
-    }
-
     /// The tile of each cluster.
     pub fn tiles(&self) -> &[TileAt]
         ensures { result.now ≡ self.now }

@@ -4,7 +4,8 @@ use Rattle.std.specs.Option.{option_map_or}
 use Rattle.ice_base.specs.declared.number.TileAt.{TileAt}
 use Rattle.ice_chip.specs.Database.{Parts}
 use Rattle.ice_chip.specs.Lookups.{global_of}
-use Rattle.ice_chip.specs.Names.{input_name, clock_name, clock_enable_name, set_reset_name, fabout_name, pad_output_name, output_enable_name}
+use Rattle.ice_chip.specs.Names.{input_name, pad_output_name, output_enable_name}
+use Rattle.ice_chip.specs.WireNames.{clock_name, clock_enable_name, set_reset_name, fabout_name}
 use Rattle.ice_chip.specs.declared.rows.Pad.{Pad}
 use Rattle.ice_cells.specs.declared.cell.Control.{Control}
 use Rattle.ice_cells.specs.declared.cell.LogicCell.{LogicCell}

@@ -47,7 +47,8 @@ fn with_globals(
     direct: &[bool],
     reads: &[Option<Root>],
 ) -> Span
-    ensures { box_in result ≡ grown root (box_in span) (globals_loads chip.now numbers.now (fed_roots direct.now reads.now)) }
+    ensures { box_in result ≡ grown root (box_in span)
+        (globals_loads chip.now numbers.now (fed_roots direct.now reads.now)) }
 {
     let mut wide = span;
     for k in 0..numbers.len().min(reads.len()) {
@@ -69,7 +70,9 @@ fn with_cell(span: Span, root: Root, tile: TileAt, cell: &LogicCell) -> Span
 
 // The box with the cell of a number.
 fn with_numbered(span: Span, root: Root, tile: TileAt, cells: &[LogicCell], c: u32) -> Span
-    ensures { (i : ℕ) → box_in result ≡ grown root (box_in span) (slot_gives cell_loads cells.now tile i (Some c)) }
+    ensures { (i : ℕ)
+        → box_in result
+        ≡ grown root (box_in span) (slot_gives cell_loads cells.now tile i (Some c)) }
 {
     match cells.get(c as usize) {
         None => span,
@@ -79,7 +82,8 @@ fn with_numbered(span: Span, root: Root, tile: TileAt, cells: &[LogicCell], c: u
 
 // The box with the cell of a slot.
 fn with_slot(span: Span, root: Root, tile: TileAt, cells: &[LogicCell], slot: Option<u32>) -> Span
-    ensures { (i : ℕ) → box_in result ≡ grown root (box_in span) (slot_gives cell_loads cells.now tile i slot) }
+    ensures { (i : ℕ)
+        → box_in result ≡ grown root (box_in span) (slot_gives cell_loads cells.now tile i slot) }
 {
     match slot {
         None => span,
@@ -95,7 +99,8 @@ fn with_slots(
     cells: &[LogicCell],
     slots: &[Option<u32>],
 ) -> Span
-    ensures { box_in result ≡ grown root (box_in span) (slots_give cell_loads cells.now tile 0 slots.now) }
+    ensures { box_in result
+        ≡ grown root (box_in span) (slots_give cell_loads cells.now tile 0 slots.now) }
 {
     let mut wide = span;
     for i in 0..slots.len() {
@@ -126,7 +131,8 @@ fn with_clusters(
     tiles: &[TileAt],
     clusters: &[Cluster],
 ) -> Span
-    ensures { box_in result ≡ grown root (box_in span) (clusters_give cell_loads control_loads cells.now tiles.now clusters.now) }
+    ensures { box_in result ≡ grown root (box_in span)
+        (clusters_give cell_loads control_loads cells.now tiles.now clusters.now) }
 {
     let mut wide = span;
     for k in 0..tiles.len().min(clusters.len()) {

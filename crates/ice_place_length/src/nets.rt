@@ -82,7 +82,9 @@ fn net_length(placed: &Placed<'_>, root: Root) -> u64
 // The lengths of the nets of all pads.
 fn pads_length(placed: &Placed<'_>) -> u64
     requires { length placed.now.ports.now ≤ 2 ^ 32 }
-    ensures value { result ≡ sum (map (λ k. net_length (plan_in placed.now) (loads_in placed.now) (pad_root k)) (range_with_len 0 (length placed.now.ports.now))) }
+    ensures value { result
+        ≡ sum (map (λ k. net_length (plan_in placed.now) (loads_in placed.now) (pad_root k))
+        (range_with_len 0 (length placed.now.ports.now))) }
     ensures bound { result ≤ 131070 * length placed.now.ports.now }
 {
     let mut total = 0;
@@ -95,7 +97,9 @@ fn pads_length(placed: &Placed<'_>) -> u64
 // The lengths of the nets of all cells.
 fn cells_length(placed: &Placed<'_>) -> u64
     requires { length placed.now.design.now.cells ≤ 2 ^ 32 }
-    ensures value { result ≡ sum (map (λ c. net_length (plan_in placed.now) (loads_in placed.now) (cell_root c)) (range_with_len 0 (length placed.now.design.now.cells))) }
+    ensures value { result
+        ≡ sum (map (λ c. net_length (plan_in placed.now) (loads_in placed.now) (cell_root c))
+        (range_with_len 0 (length placed.now.design.now.cells))) }
     ensures bound { result ≤ 131070 * length placed.now.design.now.cells }
 {
     let mut total = 0;

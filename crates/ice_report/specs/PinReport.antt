@@ -1,13 +1,13 @@
 -- The report on pins: a line for each port, with the pin and the pad that it has.
 use Rattle.std.specs.Prelude.{ℕ, List, [], ◌∷◌, ◌++◌, map, slice_index_or, codes, decimal}
 use Rattle.std.specs.List.{zip}
-use Rattle.ice_base.specs.Text.{text_of_lines}
+use Rattle.ice_base.specs.Lines.{text_of_lines}
 use Rattle.ice_net.specs.NetlistData.{NetlistData}
 use Rattle.ice_net.specs.declared.port.Port.{Port}
 use Rattle.ice_net.specs.declared.port.Way.{Way}
 use Rattle.ice_net.specs.declared.port.Way.TheVariants.{Input, Output, Both}
 use Rattle.ice_chip.specs.Database.{PackageRows}
-use Rattle.ice_chip.specs.Lookups.{first_pin}
+use Rattle.ice_chip.specs.Listings.{first_pin}
 use Rattle.ice_chip.specs.declared.rows.Pad.{Pad}
 use Rattle.ice_report.specs.Lines.{line_of}
 

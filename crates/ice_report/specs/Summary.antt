@@ -1,6 +1,6 @@
 -- The summary of a sample that was placed and routed: one line.
 use Rattle.std.specs.Prelude.{ℕ, List, [], ◌∷◌, codes, decimal}
-use Rattle.ice_base.specs.Text.{text_of_lines}
+use Rattle.ice_base.specs.Lines.{text_of_lines}
 use Rattle.ice_report.specs.Lines.{line_of}
 use Rattle.ice_report.specs.declared.samples.Summary.{Summary}
 

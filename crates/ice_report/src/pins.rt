@@ -1,10 +1,10 @@
 //! The report on pins.
 ghost use Rattle.std.specs.Prelude.{◌≡◌, ◌<◌, ◌++◌, ◌∷◌, [], All, length, map, slice_index_or, OnOk, OnErr};
 ghost use Rattle.std.specs.List.{flat_map, zip};
-ghost use Rattle.ice_base.specs.Text.{text_of_lines};
+ghost use Rattle.ice_base.specs.Lines.{text_of_lines};
 ghost use Rattle.ice_chip.specs.Views.{package_view};
 ghost use Rattle.ice_net.specs.Formed.{IsPortBelow};
-ghost use Rattle.ice_chip.specs.Lookups.{first_pin};
+ghost use Rattle.ice_chip.specs.Listings.{first_pin};
 ghost use Rattle.ice_report.specs.PinReport.{way_word, pad_words, pin_line, pin_text};
 
 use crate::text::{put_number, put_word};
@@ -38,7 +38,8 @@ fn first_pin(package: &Package, pad: Pad) -> &[u8]
 
 // Writes a pad and its first pin behind a word.
 fn put_pad(text: &mut Vec<u8>, package: &Package, pad: Pad) -> Result<(), NoMemory>
-    ensures { OnOk result (text.new.items ≡ text.old.items ++ flat_map (λ word. 32 ∷ word) (pad_words (package_view «package».now) pad)) }
+    ensures { OnOk result (text.new.items ≡ text.old.items
+        ++ flat_map (λ word. 32 ∷ word) (pad_words (package_view «package».now) pad)) }
 {
     put_word(text, first_pin(package, pad))?;
     put_number(text, u64::from(pad.tile.x))?;
@@ -64,7 +65,8 @@ fn put_port(
     pad: Pad,
 ) -> Result<(), NoMemory>
     requires { port.signal.0 < length netlist.now.names }
-    ensures { OnOk result (text.new.items ≡ text.old.items ++ text_of_lines (pin_line netlist.now (package_view «package».now) (port, pad) ∷ [])) }
+    ensures { OnOk result (text.new.items ≡ text.old.items
+        ++ text_of_lines (pin_line netlist.now (package_view «package».now) (port, pad) ∷ [])) }
 {
     text.extend_from_slice(port_name(netlist, port))?;
     put_pad(text, package, pad)?;
@@ -82,7 +84,8 @@ fn put_ports(
     pads: &[Pad],
 ) -> Result<(), NoMemory>
     requires { All (IsPortBelow (length netlist.now.names)) ports.now }
-    ensures { OnOk result (text.new.items ≡ text.old.items ++ text_of_lines (map (pin_line netlist.now (package_view «package».now)) (zip ports.now pads.now))) }
+    ensures { OnOk result (text.new.items ≡ text.old.items ++ text_of_lines
+        (map (pin_line netlist.now (package_view «package».now)) (zip ports.now pads.now))) }
 {
     for (port, pad) in ports.iter().zip(pads) {
         put_port(text, netlist, package, *port, *pad)?;
@@ -103,7 +106,8 @@ pub fn pin_report(
     pads: &Pads,
     out: &mut Vec<u8>,
 ) -> Result<(), NoMemory>
-    ensures ok { OnOk result (out.new.items ≡ out.old.items ++ pin_text netlist.now (package_view «package».now) pads.now.ports) }
+    ensures ok { OnOk result (out.new.items
+        ≡ out.old.items ++ pin_text netlist.now (package_view «package».now) pads.now.ports) }
     ensures err { OnErr result (out.new.items ≡ out.old.items) }
 {
     let mut text = Vec::new(*out.allocator());

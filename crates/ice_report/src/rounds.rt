@@ -1,7 +1,7 @@
 //! The report on routing.
 ghost use Rattle.std.specs.Prelude.{◌≡◌, ◌++◌, ◌∷◌, [], OnOk, OnErr, map, codes, decimal};
 ghost use Rattle.std.specs.List.{flat_map};
-ghost use Rattle.ice_base.specs.Text.{text_of_lines};
+ghost use Rattle.ice_base.specs.Lines.{text_of_lines};
 ghost use Rattle.ice_report.specs.Lines.{line_of};
 ghost use Rattle.ice_report.specs.RouteReport.{sizes_line, title_line, wire_line, rows_line, net_line, round_lines, end_line, route_text};
 
@@ -12,7 +12,8 @@ use ice_graph::Tree;
 
 // Writes a word and a number behind words.
 fn put_count(text: &mut Vec<u8>, title: &[u8], count: u32) -> Result<(), NoMemory>
-    ensures { OnOk result (text.new.items ≡ text.old.items ++ (32 ∷ (title.now ++ (32 ∷ decimal count)))) }
+    ensures { OnOk result
+        (text.new.items ≡ text.old.items ++ (32 ∷ (title.now ++ (32 ∷ decimal count)))) }
 {
     put_word(text, title)?;
     put_number(text, u64::from(count))
@@ -20,7 +21,8 @@ fn put_count(text: &mut Vec<u8>, title: &[u8], count: u32) -> Result<(), NoMemor
 
 // Writes the line of the sizes of a design.
 fn put_sizes(text: &mut Vec<u8>, cells: u32, tiles: u32, nets: u32) -> Result<(), NoMemory>
-    ensures { OnOk result (text.new.items ≡ text.old.items ++ text_of_lines (sizes_line cells tiles nets ∷ [])) }
+    ensures { OnOk result
+        (text.new.items ≡ text.old.items ++ text_of_lines (sizes_line cells tiles nets ∷ [])) }
 {
     text.extend_from_slice(b"cells")?;
     put_number(text, u64::from(cells))?;
@@ -32,7 +34,8 @@ fn put_sizes(text: &mut Vec<u8>, cells: u32, tiles: u32, nets: u32) -> Result<()
 
 // Writes the first line of a round, or that of the opening, which has the number 0.
 fn put_title(text: &mut Vec<u8>, round: u32) -> Result<(), NoMemory>
-    ensures { OnOk result (text.new.items ≡ text.old.items ++ text_of_lines (title_line round ∷ [])) }
+    ensures { OnOk result
+        (text.new.items ≡ text.old.items ++ text_of_lines (title_line round ∷ [])) }
 {
     if round == 0 {
         return put_line(text, b"opening");
@@ -45,7 +48,8 @@ fn put_title(text: &mut Vec<u8>, round: u32) -> Result<(), NoMemory>
 
 // Writes the line of a wire with a number of it.
 fn put_wire(text: &mut Vec<u8>, title: &[u8], wire: WireNo, number: u64) -> Result<(), NoMemory>
-    ensures { OnOk result (text.new.items ≡ text.old.items ++ text_of_lines (wire_line title.now (wire, number) ∷ [])) }
+    ensures { OnOk result (text.new.items
+        ≡ text.old.items ++ text_of_lines (wire_line title.now (wire, number) ∷ [])) }
 {
     text.extend_from_slice(title)?;
     put_number(text, u64::from(wire.0))?;
@@ -56,21 +60,24 @@ fn put_wire(text: &mut Vec<u8>, title: &[u8], wire: WireNo, number: u64) -> Resu
 
 // Writes the line of a wire that had been overused before.
 fn put_history(text: &mut Vec<u8>, entry: &(WireNo, u64)) -> Result<(), NoMemory>
-    ensures { OnOk result (text.new.items ≡ text.old.items ++ text_of_lines (wire_line (codes "history") entry.now ∷ [])) }
+    ensures { OnOk result (text.new.items
+        ≡ text.old.items ++ text_of_lines (wire_line (codes "history") entry.now ∷ [])) }
 {
     put_wire(text, b"history", entry.0, entry.1)
 }
 
 // Writes the line of a wire that is overused.
 fn put_over(text: &mut Vec<u8>, entry: &(WireNo, u32)) -> Result<(), NoMemory>
-    ensures { OnOk result (text.new.items ≡ text.old.items ++ text_of_lines (wire_line (codes "over") entry.now ∷ [])) }
+    ensures { OnOk result (text.new.items
+        ≡ text.old.items ++ text_of_lines (wire_line (codes "over") entry.now ∷ [])) }
 {
     put_wire(text, b"over", entry.0, u64::from(entry.1))
 }
 
 // Writes the wires that had been overused before.
 fn put_histories(text: &mut Vec<u8>, history: &[(WireNo, u64)]) -> Result<(), NoMemory>
-    ensures { OnOk result (text.new.items ≡ text.old.items ++ text_of_lines (map (wire_line (codes "history")) history.now)) }
+    ensures { OnOk result (text.new.items
+        ≡ text.old.items ++ text_of_lines (map (wire_line (codes "history")) history.now)) }
 {
     for entry in history {
         put_history(text, entry)?;
@@ -80,7 +87,8 @@ fn put_histories(text: &mut Vec<u8>, history: &[(WireNo, u64)]) -> Result<(), No
 
 // Writes the wires that are overused.
 fn put_overused(text: &mut Vec<u8>, over: &[(WireNo, u32)]) -> Result<(), NoMemory>
-    ensures { OnOk result (text.new.items ≡ text.old.items ++ text_of_lines (map (wire_line (codes "over")) over.now)) }
+    ensures { OnOk result (text.new.items
+        ≡ text.old.items ++ text_of_lines (map (wire_line (codes "over")) over.now)) }
 {
     for entry in over {
         put_over(text, entry)?;
@@ -90,7 +98,8 @@ fn put_overused(text: &mut Vec<u8>, over: &[(WireNo, u32)]) -> Result<(), NoMemo
 
 // Writes the rows of a tree behind words.
 fn put_rows(text: &mut Vec<u8>, rows: &[RowNo]) -> Result<(), NoMemory>
-    ensures { OnOk result (text.new.items ≡ text.old.items ++ flat_map (λ word. 32 ∷ word) (map (λ row. decimal row.0) rows.now)) }
+    ensures { OnOk result (text.new.items
+        ≡ text.old.items ++ flat_map (λ word. 32 ∷ word) (map (λ row. decimal row.0) rows.now)) }
 {
     for row in rows {
         put_number(text, u64::from(row.0))?;
@@ -100,7 +109,8 @@ fn put_rows(text: &mut Vec<u8>, rows: &[RowNo]) -> Result<(), NoMemory>
 
 // Writes the line of a net with the rows of its tree.
 fn put_rows_of(text: &mut Vec<u8>, net: NetNo, rows: &[RowNo]) -> Result<(), NoMemory>
-    ensures { OnOk result (text.new.items ≡ text.old.items ++ text_of_lines (rows_line net rows.now ∷ [])) }
+    ensures { OnOk result
+        (text.new.items ≡ text.old.items ++ text_of_lines (rows_line net rows.now ∷ [])) }
 {
     text.extend_from_slice(b"net")?;
     put_number(text, u64::from(net.0))?;
@@ -112,14 +122,16 @@ fn put_rows_of(text: &mut Vec<u8>, net: NetNo, rows: &[RowNo]) -> Result<(), NoM
 
 // Writes the line of a net that moved.
 fn put_net(text: &mut Vec<u8>, entry: &(NetNo, Tree)) -> Result<(), NoMemory>
-    ensures { OnOk result (text.new.items ≡ text.old.items ++ text_of_lines (net_line entry.now ∷ [])) }
+    ensures { OnOk result
+        (text.new.items ≡ text.old.items ++ text_of_lines (net_line entry.now ∷ [])) }
 {
     put_rows_of(text, entry.0, &entry.1.rows)
 }
 
 // Writes the nets that moved.
 fn put_nets(text: &mut Vec<u8>, moved: &[(NetNo, Tree)]) -> Result<(), NoMemory>
-    ensures { OnOk result (text.new.items ≡ text.old.items ++ text_of_lines (map net_line moved.now)) }
+    ensures { OnOk result
+        (text.new.items ≡ text.old.items ++ text_of_lines (map net_line moved.now)) }
 {
     for entry in moved {
         put_net(text, entry)?;
@@ -140,7 +152,8 @@ fn put_round(text: &mut Vec<u8>, log: &RoundLog) -> Result<(), NoMemory>
 
 // Writes the lines of all rounds.
 fn put_rounds(text: &mut Vec<u8>, logs: &[RoundLog]) -> Result<(), NoMemory>
-    ensures { OnOk result (text.new.items ≡ text.old.items ++ text_of_lines (flat_map round_lines logs.now)) }
+    ensures { OnOk result
+        (text.new.items ≡ text.old.items ++ text_of_lines (flat_map round_lines logs.now)) }
 {
     for log in logs {
         put_round(text, log)?;
@@ -150,7 +163,8 @@ fn put_rounds(text: &mut Vec<u8>, logs: &[RoundLog]) -> Result<(), NoMemory>
 
 // Writes how routing ended.
 fn put_end(text: &mut Vec<u8>, routed: bool) -> Result<(), NoMemory>
-    ensures { OnOk result (text.new.items ≡ text.old.items ++ text_of_lines (end_line routed ∷ [])) }
+    ensures { OnOk result
+        (text.new.items ≡ text.old.items ++ text_of_lines (end_line routed ∷ [])) }
 {
     if routed {
         put_line(text, b"routed")
@@ -168,7 +182,8 @@ fn put_report(
     logs: &[RoundLog],
     routed: bool,
 ) -> Result<(), NoMemory>
-    ensures { OnOk result (text.new.items ≡ text.old.items ++ route_text cells tiles nets logs.now routed) }
+    ensures { OnOk result
+        (text.new.items ≡ text.old.items ++ route_text cells tiles nets logs.now routed) }
 {
     put_sizes(text, cells, tiles, nets)?;
     put_rounds(text, logs)?;
@@ -191,7 +206,8 @@ pub fn route_report(
     routed: bool,
     out: &mut Vec<u8>,
 ) -> Result<(), NoMemory>
-    ensures ok { OnOk result (out.new.items ≡ out.old.items ++ route_text cells tiles nets logs.now routed) }
+    ensures ok { OnOk result
+        (out.new.items ≡ out.old.items ++ route_text cells tiles nets logs.now routed) }
     ensures err { OnErr result (out.new.items ≡ out.old.items) }
 {
     let mut text = Vec::new(*out.allocator());

@@ -25,7 +25,8 @@ pub struct Summary {
 
 // Writes a word and a number behind words.
 fn put_size(text: &mut Vec<u8>, title: &[u8], size: u64) -> Result<(), NoMemory>
-    ensures { OnOk result (text.new.items ≡ text.old.items ++ flat_map (λ word. 32 ∷ word) (title.now ∷ decimal size ∷ [])) }
+    ensures { OnOk result (text.new.items
+        ≡ text.old.items ++ flat_map (λ word. 32 ∷ word) (title.now ∷ decimal size ∷ [])) }
 {
     put_word(text, title)?;
     put_number(text, size)
@@ -33,7 +34,8 @@ fn put_size(text: &mut Vec<u8>, title: &[u8], size: u64) -> Result<(), NoMemory>
 
 // Writes the sizes behind words.
 fn put_sizes(text: &mut Vec<u8>, summary: &Summary) -> Result<(), NoMemory>
-    ensures { OnOk result (text.new.items ≡ text.old.items ++ flat_map (λ word. 32 ∷ word) (size_words summary.now)) }
+    ensures { OnOk result
+        (text.new.items ≡ text.old.items ++ flat_map (λ word. 32 ∷ word) (size_words summary.now)) }
 {
     put_size(text, b"cells", summary.cells)?;
     put_size(text, b"tiles", summary.tiles)?;

@@ -1,6 +1,6 @@
 //! Pieces of lines.
 ghost use Rattle.std.specs.Prelude.{◌≡◌, ◌++◌, ◌∷◌, [], OnOk, decimal};
-ghost use Rattle.ice_base.specs.Text.{text_of_lines};
+ghost use Rattle.ice_base.specs.Lines.{text_of_lines};
 
 use ice_base::NoMemory;
 use itoa::Buffer;

@@ -5,7 +5,7 @@ use Rattle.std.proofs.lemmas.List.{take_more, map_more, flat_map_more, length-ta
 use Rattle.std.proofs.lemmas.List.Sums.{sum_by-cons, sum_by-append}
 use Rattle.std.proofs.lemmas.Result.{on_ok_weaker}
 use Rattle.std.proofs.lemmas.List.FromFn.{sum_by-map-range_with_len_more}
-use Rattle.ice_base.specs.Text.{text_of_lines}
+use Rattle.ice_base.specs.Lines.{text_of_lines}
 use Rattle.ice_base.proofs.Pieces.{text_join, further}
 use Rattle.ice_sample.specs.Lines.{numbered, binary}
 use Rattle.ice_sample.proofs.Counting.{map_range_more, flat_map_range_more}

@@ -5,7 +5,7 @@ use Rattle.std.proofs.lemmas.List.FromFn.{length-map-range_with_len, get_or-map-
 use Rattle.std.proofs.lemmas.Bool.Decides.{nat_tests}
 use Rattle.std.proofs.lemmas.List.{get_or_append_left, get_or-append_right}
 use Rattle.std.proofs.lemmas.Option.{unwrap_or-slice_get}
-use Rattle.ice_base.specs.Text.{text_of_lines}
+use Rattle.ice_base.specs.Lines.{text_of_lines}
 use Rattle.rand_pcg.specs.Lcg.{Lcg}
 use Rattle.ice_sample.specs.Netlist.{drawn, after, input_name, cell_name, names, name_at, found, picked}
 use Rattle.ice_base.proofs.Pieces.{further, text_join}

@@ -1,7 +1,7 @@
 -- The text of the sample chip.
 use Rattle.std.specs.Prelude.{ℕ, List, ◌++◌}
 use Rattle.ice_base.specs.declared.number.TileAt.{TileAt}
-use Rattle.ice_base.specs.Text.{text_of_lines}
+use Rattle.ice_base.specs.Lines.{text_of_lines}
 use Rattle.ice_sample.specs.declared.grid.Tile.{Tile}
 use Rattle.ice_sample.specs.declared.pads.Pad.{Pad}
 use Rattle.ice_sample.specs.Tiles.{tiles_of}

@@ -1,6 +1,6 @@
 //! The names of bits, and the sections of the functions of tiles.
 ghost use Rattle.std.specs.Prelude.{◌≡◌, ◌++◌, ◌+◌, ◌*◌, ◌<◌, ◌≤◌, decimal, OnOk};
-ghost use Rattle.ice_base.specs.Text.{text_of_lines};
+ghost use Rattle.ice_base.specs.Lines.{text_of_lines};
 ghost use Rattle.ice_sample.specs.Bits.{columns_of, bit_word, bit_words, function_row, function_rows, function_series, lone_function, io_bit_lines, logic_bit_lines};
 
 use crate::grid::TileKind;
@@ -32,7 +32,8 @@ fn put_bit(text: &mut Vec<u8>, columns: u16, bit: u16) -> Result<(), NoMemory>
 /// Writes the names of so many bits of a tile, from a number on, each behind a blank.
 pub fn put_bits(text: &mut Vec<u8>, kind: TileKind, first: u16, count: u16) -> Result<(), NoMemory>
     requires { first + count ≤ 1000 }
-    ensures { OnOk result (text.new.items ≡ text.old.items ++ bit_words (columns_of kind) first count) }
+    ensures { OnOk result
+        (text.new.items ≡ text.old.items ++ bit_words (columns_of kind) first count) }
 {
     let columns = columns_of(kind);
     for bit in 0..count {
@@ -44,8 +45,8 @@ pub fn put_bits(text: &mut Vec<u8>, kind: TileKind, first: u16, count: u16) -> R
 // Writes the row of a function of one bit.
 fn put_function(text: &mut Vec<u8>, kind: TileKind, title: &[u8], bit: u16) -> Result<(), NoMemory>
     requires { bit ≤ 500 }
-    ensures { OnOk result (text.new.items
-        ≡ text.old.items ++ text_of_lines (function_rows (columns_of kind) bit (lone_function title.now))) }
+    ensures { OnOk result (text.new.items ≡ text.old.items
+        ++ text_of_lines (function_rows (columns_of kind) bit (lone_function title.now))) }
 {
     text.extend_from_slice(title)?;
     put_bits(text, kind, bit, 1)?;
@@ -62,8 +63,8 @@ fn put_numbered_function(
     size: u16,
 ) -> Result<(), NoMemory>
     requires { first + size ≤ 1000 }
-    ensures { OnOk result (text.new.items
-        ≡ text.old.items ++ text_of_lines (function_row (columns_of kind) first (record { title = title.now ++ decimal number; size = size }))) }
+    ensures { OnOk result (text.new.items ≡ text.old.items ++ text_of_lines (function_row
+        (columns_of kind) first (record { title = title.now ++ decimal number; size = size }))) }
 {
     put_worded(text, title, u64::from(number))?;
     put_bits(text, kind, first, size)?;
@@ -82,8 +83,8 @@ fn put_functions(
     requires few { count ≤ 8 }
     requires small { size ≤ 20 }
     requires first { first ≤ 500 }
-    ensures { OnOk result (text.new.items
-        ≡ text.old.items ++ text_of_lines (function_rows (columns_of kind) first (function_series title.now count size))) }
+    ensures { OnOk result (text.new.items ≡ text.old.items ++ text_of_lines
+        (function_rows (columns_of kind) first (function_series title.now count size))) }
 {
     let mut bit = first;
     for number in 0..count {

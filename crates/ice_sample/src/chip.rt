@@ -1,6 +1,6 @@
 //! The sample chip.
 ghost use Rattle.std.specs.Prelude.{◌≡◌, ◌++◌, ◌<◌, ◌≤◌, OnOk, OnErr};
-ghost use Rattle.ice_base.specs.Text.{text_of_lines};
+ghost use Rattle.ice_base.specs.Lines.{text_of_lines};
 ghost use Rattle.ice_sample.specs.Tiles.{IsWithin};
 ghost use Rattle.ice_sample.specs.Groups.{own_group_lines, tile_group_lines, all_group_lines};
 ghost use Rattle.ice_sample.specs.Chip.{sections_of, layout_lines, sample_chip_text};
@@ -25,8 +25,8 @@ fn put_sections(
     pads: &[Pad],
     logic: &[TileAt],
 ) -> Result<(), NoMemory>
-    ensures { OnOk result (text.new.items
-        ≡ text.old.items ++ text_of_lines (sections_of grid.now.width grid.now.height io.now pads.now logic.now grid.now.tiles.items)) }
+    ensures { OnOk result (text.new.items ≡ text.old.items ++ text_of_lines (sections_of
+        grid.now.width grid.now.height io.now pads.now logic.now grid.now.tiles.items)) }
 {
     put_device(text, grid)?;
     put_pins(text, pads)?;
@@ -39,8 +39,8 @@ fn put_sections(
 
 // Finds what the chip has, and writes the sections that say it.
 fn put_layout(alloc: Global, text: &mut Vec<u8>, grid: &Grid) -> Result<(), NoMemory>
-    ensures { OnOk result (text.new.items
-        ≡ text.old.items ++ text_of_lines (layout_lines grid.now.width grid.now.height grid.now.tiles.items)) }
+    ensures { OnOk result (text.new.items ≡ text.old.items
+        ++ text_of_lines (layout_lines grid.now.width grid.now.height grid.now.tiles.items)) }
 {
     let io = io_places(alloc, &grid.tiles)?;
     let pads = pads_at(alloc, &io)?;
@@ -59,8 +59,8 @@ fn put_io_groups(
     requires column { at.x < grid.now.width }
     requires row { at.y < grid.now.height }
     requires first { first ≤ 500000 }
-    ensures { OnOk result (text.new.items
-        ≡ text.old.items ++ text_of_lines (own_group_lines grid.now.width grid.now.height TileKind.Io at first)) }
+    ensures { OnOk result (text.new.items ≡ text.old.items
+        ++ text_of_lines (own_group_lines grid.now.width grid.now.height TileKind.Io at first)) }
 {
     let tile = Tile {
         at,
@@ -81,8 +81,8 @@ fn put_logic_groups(
     requires column { at.x < grid.now.width }
     requires row { at.y < grid.now.height }
     requires first { first ≤ 500000 }
-    ensures { OnOk result (text.new.items
-        ≡ text.old.items ++ text_of_lines (own_group_lines grid.now.width grid.now.height TileKind.Logic at first)) }
+    ensures { OnOk result (text.new.items ≡ text.old.items
+        ++ text_of_lines (own_group_lines grid.now.width grid.now.height TileKind.Logic at first)) }
 {
     let tile = Tile {
         at,
@@ -115,8 +115,8 @@ fn put_tile_groups(
 
 // Writes the sections of the groups.
 fn put_groups(alloc: Global, text: &mut Vec<u8>, grid: &Grid) -> Result<(), NoMemory>
-    ensures { OnOk result (text.new.items
-        ≡ text.old.items ++ text_of_lines (all_group_lines grid.now.width grid.now.height grid.now.tiles.items)) }
+    ensures { OnOk result (text.new.items ≡ text.old.items
+        ++ text_of_lines (all_group_lines grid.now.width grid.now.height grid.now.tiles.items)) }
 {
     let mut sources = Vec::new(alloc);
     for tile in &grid.tiles {
@@ -127,7 +127,8 @@ fn put_groups(alloc: Global, text: &mut Vec<u8>, grid: &Grid) -> Result<(), NoMe
 
 // Writes the text of the chip of a grid.
 fn put_chip(alloc: Global, text: &mut Vec<u8>, grid: &Grid) -> Result<(), NoMemory>
-    ensures { OnOk result (text.new.items ≡ text.old.items ++ sample_chip_text grid.now.width grid.now.height) }
+    ensures { OnOk result
+        (text.new.items ≡ text.old.items ++ sample_chip_text grid.now.width grid.now.height) }
 {
     put_layout(alloc, text, grid)?;
     put_io_functions(text)?;

@@ -81,7 +81,8 @@ pub struct Grid {
     ghost low: { height ≤ 64 },
     ghost counted: { wires ≡ wire_count width height },
     ghost tiled: { tiles.items ≡ tiles_of width height },
-    ghost numbered: { first_wires.items ≡ map (wires_before width height) (range_with_len 0 (width * height)) },
+    ghost numbered: { first_wires.items
+        ≡ map (wires_before width height) (range_with_len 0 (width * height)) },
 }
 
 // Puts the tile of a place behind the tiles, if it has a kind.

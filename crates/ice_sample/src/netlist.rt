@@ -1,6 +1,6 @@
 //! The sample netlist.
 ghost use Rattle.std.specs.Prelude.{◌≡◌, ◌+◌, ◌^◌, ◌<◌, ◌++◌, ◌∷◌, [], OnOk, OnErr, decimal};
-ghost use Rattle.ice_base.specs.Text.{text_of_lines};
+ghost use Rattle.ice_base.specs.Lines.{text_of_lines};
 ghost use Rattle.ice_sample.specs.Netlist.{started_at, drawn, after, has_flip_flop, cell_name, names, name_at, found, picked, drawn_inputs, gate_line, table_line, flip_flop_line, flip_flop_lines, cell_lines, output_lines, head_lines, all_cell_lines, all_output_lines, sample_net_text, word};
 
 use crate::text::{put_binary, put_line, put_worded};
@@ -75,7 +75,8 @@ fn put_picked(text: &mut Vec<u8>, cells: u32, word: u32) -> Result<(), NoMemory>
 
 // Writes an input of a cell, from its name on.
 fn put_input(text: &mut Vec<u8>, input: &[u8], cell: u32, word: u32) -> Result<(), NoMemory>
-    ensures { OnOk result (text.new.items ≡ text.old.items ++ input.now ++ picked (names cell) word) }
+    ensures { OnOk result
+        (text.new.items ≡ text.old.items ++ input.now ++ picked (names cell) word) }
 {
     text.extend_from_slice(input)?;
     put_picked(text, cell, word)
@@ -116,7 +117,8 @@ fn put_gate(text: &mut Vec<u8>, rng: &mut Lcg64Xsh32, cell: u32) -> Result<(), N
 
 // Writes the line of what a table holds.
 fn put_table(text: &mut Vec<u8>, word: u32) -> Result<(), NoMemory>
-    ensures { OnOk result (text.new.items ≡ text.old.items ++ text_of_lines (table_line word ∷ [])) }
+    ensures { OnOk result
+        (text.new.items ≡ text.old.items ++ text_of_lines (table_line word ∷ [])) }
 {
     text.extend_from_slice(b".param LUT_INIT ")?;
     put_binary(text, 16, u64::from(word))?;
@@ -126,7 +128,8 @@ fn put_table(text: &mut Vec<u8>, word: u32) -> Result<(), NoMemory>
 
 // Writes the line of the flip-flop of a cell that has one.
 fn put_flip_flop(text: &mut Vec<u8>, cell: u32) -> Result<(), NoMemory>
-    ensures { OnOk result (text.new.items ≡ text.old.items ++ text_of_lines (flip_flop_line cell ∷ [])) }
+    ensures { OnOk result
+        (text.new.items ≡ text.old.items ++ text_of_lines (flip_flop_line cell ∷ [])) }
 {
     put_lettered(text, b".gate SB_DFF C=clk_g D=n", cell)?;
     put_lettered(text, b" Q=q", cell)?;
@@ -136,7 +139,8 @@ fn put_flip_flop(text: &mut Vec<u8>, cell: u32) -> Result<(), NoMemory>
 
 // Writes the line of the flip-flop of a cell, if it has one.
 fn put_flip_flop_of(text: &mut Vec<u8>, cell: u32) -> Result<(), NoMemory>
-    ensures { OnOk result (text.new.items ≡ text.old.items ++ text_of_lines (flip_flop_lines cell)) }
+    ensures { OnOk result
+        (text.new.items ≡ text.old.items ++ text_of_lines (flip_flop_lines cell)) }
 {
     if has_flip_flop(cell) {
         put_flip_flop(text, cell)?;
@@ -146,7 +150,8 @@ fn put_flip_flop_of(text: &mut Vec<u8>, cell: u32) -> Result<(), NoMemory>
 
 // Writes the lines of a cell.
 fn put_cell(text: &mut Vec<u8>, rng: &mut Lcg64Xsh32, cell: u32) -> Result<(), NoMemory>
-    ensures written { OnOk result (text.new.items ≡ text.old.items ++ text_of_lines (cell_lines cell rng.old)) }
+    ensures written { OnOk result
+        (text.new.items ≡ text.old.items ++ text_of_lines (cell_lines cell rng.old)) }
     ensures drawn { OnOk result (rng.new ≡ after 5 rng.old) }
 {
     put_gate(text, rng, cell)?;
@@ -170,7 +175,8 @@ fn put_cells(text: &mut Vec<u8>, number: u64, cells: u32) -> Result<(), NoMemory
 // Writes the lines of an output.
 fn put_output(text: &mut Vec<u8>, cells: u32, output: u32) -> Result<(), NoMemory>
     requires { output < 8 }
-    ensures { OnOk result (text.new.items ≡ text.old.items ++ text_of_lines (output_lines (names cells) output)) }
+    ensures { OnOk result
+        (text.new.items ≡ text.old.items ++ text_of_lines (output_lines (names cells) output)) }
 {
     text.extend_from_slice(b".names ")?;
     put_name_of(text, cells, u64::from(cells) + u64::from(output))?;
@@ -181,7 +187,8 @@ fn put_output(text: &mut Vec<u8>, cells: u32, output: u32) -> Result<(), NoMemor
 
 // Writes the lines of all outputs.
 fn put_outputs(text: &mut Vec<u8>, cells: u32) -> Result<(), NoMemory>
-    ensures { OnOk result (text.new.items ≡ text.old.items ++ text_of_lines (all_output_lines (names cells))) }
+    ensures { OnOk result
+        (text.new.items ≡ text.old.items ++ text_of_lines (all_output_lines (names cells))) }
 {
     for output in 0..8 {
         put_output(text, cells, output)?;

@@ -1,6 +1,6 @@
 //! The groups of pins, behind those of the tracks.
 ghost use Rattle.std.specs.Prelude.{◌≡◌, ◌++◌, ◌+◌, ◌*◌, ◌<◌, ◌≤◌, ◌∷◌, [], OnOk};
-ghost use Rattle.ice_base.specs.Text.{text_of_lines};
+ghost use Rattle.ice_base.specs.Lines.{text_of_lines};
 ghost use Rattle.ice_sample.specs.Groups.{group_lines, groups_from, input_group, cell_groups, input_groups, control_group, control_groups, carry_in, carry_groups, io_pin_group, io_pin_groups};
 
 use crate::grid::{Grid, Tile};
@@ -22,8 +22,8 @@ fn put_input(
     requires bit { bit ≤ 900 }
     requires cell { cell < 8 }
     requires input { input < 4 }
-    ensures { OnOk result (text.new.items
-        ≡ text.old.items ++ text_of_lines (group_lines tile.kind tile.at bit (input_group first cell input))) }
+    ensures { OnOk result (text.new.items ≡ text.old.items
+        ++ text_of_lines (group_lines tile.kind tile.at bit (input_group first cell input))) }
 {
     sources.clear();
     add_pin_tracks(sources, first + 52, 4 * cell + input)?;
@@ -43,8 +43,8 @@ fn put_cell(
     requires first { first ≤ 500000 }
     requires bit { bit ≤ 800 }
     requires cell { cell < 8 }
-    ensures { OnOk result (text.new.items
-        ≡ text.old.items ++ text_of_lines (groups_from tile.kind tile.at bit (cell_groups first cell))) }
+    ensures { OnOk result (text.new.items ≡ text.old.items
+        ++ text_of_lines (groups_from tile.kind tile.at bit (cell_groups first cell))) }
 {
     for input in 0..4 {
         put_input(
@@ -70,8 +70,8 @@ pub fn put_inputs(
 ) -> Result<(), NoMemory>
     requires first { first ≤ 500000 }
     requires bit { bit ≤ 600 }
-    ensures { OnOk result (text.new.items
-        ≡ text.old.items ++ text_of_lines (groups_from tile.kind tile.at bit (input_groups first))) }
+    ensures { OnOk result (text.new.items ≡ text.old.items
+        ++ text_of_lines (groups_from tile.kind tile.at bit (input_groups first))) }
 {
     for cell in 0..8 {
         put_cell(text, sources, tile, first, bit + 16 * cell as u16, cell)?;
@@ -92,8 +92,8 @@ fn put_control(
     requires first { first ≤ 500000 }
     requires bit { bit ≤ 900 }
     requires control { control < 3 }
-    ensures { OnOk result (text.new.items
-        ≡ text.old.items ++ text_of_lines (group_lines tile.kind tile.at bit (control_group first control globals.now))) }
+    ensures { OnOk result (text.new.items ≡ text.old.items ++ text_of_lines
+        (group_lines tile.kind tile.at bit (control_group first control globals.now))) }
 {
     sources.clear();
     sources.extend_from_slice(globals)?;
@@ -112,8 +112,8 @@ pub fn put_controls(
 ) -> Result<(), NoMemory>
     requires first { first ≤ 500000 }
     requires bit { bit ≤ 800 }
-    ensures { OnOk result (text.new.items
-        ≡ text.old.items ++ text_of_lines (groups_from tile.kind tile.at bit (control_groups first))) }
+    ensures { OnOk result (text.new.items ≡ text.old.items
+        ++ text_of_lines (groups_from tile.kind tile.at bit (control_groups first))) }
 {
     put_control(
         text,
@@ -139,8 +139,8 @@ pub fn put_carry(
 ) -> Result<(), NoMemory>
     requires first { first ≤ 500000 }
     requires bit { bit ≤ 900 }
-    ensures { OnOk result (text.new.items
-        ≡ text.old.items ++ text_of_lines (groups_from tile.kind tile.at bit (carry_groups first (carry_in grid.now.width grid.now.height tile.at)))) }
+    ensures { OnOk result (text.new.items ≡ text.old.items ++ text_of_lines (groups_from tile.kind
+        tile.at bit (carry_groups first (carry_in grid.now.width grid.now.height tile.at)))) }
 {
     sources.clear();
     add_carry_in(sources, grid, tile.at)?;
@@ -157,8 +157,8 @@ fn put_carry_of(
 ) -> Result<(), NoMemory>
     requires first { first ≤ 500000 }
     requires bit { bit ≤ 900 }
-    ensures { OnOk result (text.new.items
-        ≡ text.old.items ++ text_of_lines (groups_from tile.kind tile.at bit (carry_groups first carries.now))) }
+    ensures { OnOk result (text.new.items ≡ text.old.items
+        ++ text_of_lines (groups_from tile.kind tile.at bit (carry_groups first carries.now))) }
 {
     if carries.is_empty() {
         return Ok(());
@@ -180,8 +180,8 @@ fn put_io_pin(
     requires bit { bit ≤ 900 }
     requires place { place < 64 }
     requires pin { pin < 64 }
-    ensures { OnOk result (text.new.items
-        ≡ text.old.items ++ text_of_lines (group_lines tile.kind tile.at bit (io_pin_group first place pin))) }
+    ensures { OnOk result (text.new.items ≡ text.old.items
+        ++ text_of_lines (group_lines tile.kind tile.at bit (io_pin_group first place pin))) }
 {
     sources.clear();
     add_pin_tracks(sources, first + 7, pin)?;
@@ -198,8 +198,8 @@ pub fn put_io_pins(
 ) -> Result<(), NoMemory>
     requires first { first ≤ 500000 }
     requires bit { bit ≤ 800 }
-    ensures { OnOk result (text.new.items
-        ≡ text.old.items ++ text_of_lines (groups_from tile.kind tile.at bit (io_pin_groups first))) }
+    ensures { OnOk result (text.new.items ≡ text.old.items
+        ++ text_of_lines (groups_from tile.kind tile.at bit (io_pin_groups first))) }
 {
     put_io_pin(text, sources, tile, first, bit, 1, 0)?;
     put_io_pin(text, sources, tile, first, bit + 4, 2, 1)?;

@@ -1,6 +1,6 @@
 //! The sections before the bits: the device, pins, globals, input enables, column buffers and tiles.
 ghost use Rattle.std.specs.Prelude.{◌≡◌, ◌++◌, ◌+◌, ◌∷◌, [], ◌<◌, ◌≤◌, ◌^◌, take, length, codes, decimal, OnOk};
-ghost use Rattle.ice_base.specs.Text.{text_of_lines};
+ghost use Rattle.ice_base.specs.Lines.{text_of_lines};
 ghost use Rattle.ice_sample.specs.Lines.{number_words, place_words, placed_words};
 ghost use Rattle.ice_sample.specs.Sections.{device_lines, pad_words, pin_lines, global_lines, input_enable_lines, column_buffer_lines, tile_heading, tile_lines};
 
@@ -11,8 +11,8 @@ use ice_base::{NoMemory, TileAt};
 
 // Writes the line of a device of a size and so many wires.
 fn put_size(text: &mut Vec<u8>, width: u16, height: u16, wires: u32) -> Result<(), NoMemory>
-    ensures { OnOk result (text.new.items
-        ≡ text.old.items ++ text_of_lines ((codes ".device 1k " ++ number_words width height ++ codes " " ++ decimal wires) ∷ [])) }
+    ensures { OnOk result (text.new.items ≡ text.old.items ++ text_of_lines
+        ((codes ".device 1k " ++ number_words width height ++ codes " " ++ decimal wires) ∷ [])) }
 {
     text.extend_from_slice(b".device 1k ")?;
     put_numbers(text, u64::from(width), u64::from(height))?;
@@ -72,7 +72,8 @@ fn first_eight(places: &[TileAt]) -> &[TileAt]
 
 // Writes the row of a global.
 fn put_global(text: &mut Vec<u8>, global: u64, at: TileAt) -> Result<(), NoMemory>
-    ensures { OnOk result (text.new.items ≡ text.old.items ++ text_of_lines (placed_words at global ∷ [])) }
+    ensures { OnOk result
+        (text.new.items ≡ text.old.items ++ text_of_lines (placed_words at global ∷ [])) }
 {
     put_placed(text, at, global)?;
     end_line(text)
@@ -80,7 +81,8 @@ fn put_global(text: &mut Vec<u8>, global: u64, at: TileAt) -> Result<(), NoMemor
 
 /// Writes the section of the inputs of globals, of the places of the IO tiles.
 pub fn put_globals(text: &mut Vec<u8>, places: &[TileAt]) -> Result<(), NoMemory>
-    ensures { OnOk result (text.new.items ≡ text.old.items ++ text_of_lines (global_lines places.now)) }
+    ensures { OnOk result
+        (text.new.items ≡ text.old.items ++ text_of_lines (global_lines places.now)) }
 {
     put_line(text, b".gbufin")?;
     let mut global = 0;
@@ -104,7 +106,8 @@ fn put_input_enable(text: &mut Vec<u8>, pad: Pad) -> Result<(), NoMemory>
 
 /// Writes the section of the input enables.
 pub fn put_input_enables(text: &mut Vec<u8>, pads: &[Pad]) -> Result<(), NoMemory>
-    ensures { OnOk result (text.new.items ≡ text.old.items ++ text_of_lines (input_enable_lines pads.now)) }
+    ensures { OnOk result
+        (text.new.items ≡ text.old.items ++ text_of_lines (input_enable_lines pads.now)) }
 {
     put_line(text, b".ieren")?;
     for pad in pads {
@@ -126,7 +129,8 @@ fn put_column_buffer(text: &mut Vec<u8>, at: TileAt) -> Result<(), NoMemory>
 
 /// Writes the section of the column buffers, of the places of the logic tiles.
 pub fn put_column_buffers(text: &mut Vec<u8>, places: &[TileAt]) -> Result<(), NoMemory>
-    ensures { OnOk result (text.new.items ≡ text.old.items ++ text_of_lines (column_buffer_lines places.now)) }
+    ensures { OnOk result
+        (text.new.items ≡ text.old.items ++ text_of_lines (column_buffer_lines places.now)) }
 {
     put_line(text, b".colbuf")?;
     for at in places {
@@ -157,7 +161,8 @@ fn put_tile(text: &mut Vec<u8>, tile: Tile) -> Result<(), NoMemory>
 
 /// Writes the sections of the tiles.
 pub fn put_tiles(text: &mut Vec<u8>, tiles: &[Tile]) -> Result<(), NoMemory>
-    ensures { OnOk result (text.new.items ≡ text.old.items ++ text_of_lines (tile_lines tiles.now)) }
+    ensures { OnOk result
+        (text.new.items ≡ text.old.items ++ text_of_lines (tile_lines tiles.now)) }
 {
     for tile in tiles {
         put_tile(text, *tile)?;

@@ -55,7 +55,8 @@ fn add_outputs_of_cells(sources: &mut Vec<u32>, first: u32) -> Result<(), NoMemo
 // Puts a track of the tile at a place behind the sources, if there is a tile.
 fn add_track(sources: &mut Vec<u32>, grid: &Grid, track: u32, at: TileAt) -> Result<(), NoMemory>
     requires { track ≤ 64 }
-    ensures { OnOk result (sources.new.items ≡ sources.old.items ++ track_at grid.now.width grid.now.height track at) }
+    ensures { OnOk result (sources.new.items
+        ≡ sources.old.items ++ track_at grid.now.width grid.now.height track at) }
 {
     match kind_at(grid.width, grid.height, at) {
         None => Ok(()),
@@ -95,8 +96,8 @@ fn add_south_track(
     at: TileAt,
 ) -> Result<(), NoMemory>
     requires { track ≤ 64 }
-    ensures { OnOk result (sources.new.items
-        ≡ sources.old.items ++ flat_map (track_at grid.now.width grid.now.height track) (south at)) }
+    ensures { OnOk result (sources.new.items ≡ sources.old.items
+        ++ flat_map (track_at grid.now.width grid.now.height track) (south at)) }
 {
     if at.y == 0 {
         return Ok(());
@@ -180,7 +181,8 @@ pub fn add_carry_for(
 // Puts the carry out of the tile at a place behind the sources, if that is a logic tile.
 fn add_carry_out(sources: &mut Vec<u32>, grid: &Grid, at: TileAt) -> Result<(), NoMemory>
     ensures { OnOk result (sources.new.items
-        ≡ sources.old.items ++ carry_out (kind_at grid.now.width grid.now.height at) (first_wire grid.now.width grid.now.height at)) }
+        ≡ sources.old.items ++ carry_out (kind_at grid.now.width grid.now.height at)
+        (first_wire grid.now.width grid.now.height at)) }
 {
     match kind_at(grid.width, grid.height, at) {
         None => Ok(()),
@@ -194,7 +196,8 @@ fn add_carry_out(sources: &mut Vec<u32>, grid: &Grid, at: TileAt) -> Result<(), 
 
 /// Puts the carry into the tile at a place behind the sources, if there is one.
 pub fn add_carry_in(sources: &mut Vec<u32>, grid: &Grid, at: TileAt) -> Result<(), NoMemory>
-    ensures { OnOk result (sources.new.items ≡ sources.old.items ++ carry_in grid.now.width grid.now.height at) }
+    ensures { OnOk result
+        (sources.new.items ≡ sources.old.items ++ carry_in grid.now.width grid.now.height at) }
 {
     if at.y == 0 {
         return Ok(());

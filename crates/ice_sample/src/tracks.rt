@@ -1,6 +1,6 @@
 //! The groups of tracks.
 ghost use Rattle.std.specs.Prelude.{◌≡◌, ◌++◌, ◌+◌, ◌*◌, ◌<◌, ◌≤◌, OnOk};
-ghost use Rattle.ice_base.specs.Text.{text_of_lines};
+ghost use Rattle.ice_base.specs.Lines.{text_of_lines};
 ghost use Rattle.ice_sample.specs.Tiles.{IsWithin, first_wire};
 ghost use Rattle.ice_sample.specs.Groups.{track_size, outputs, tracks_beside, group_lines, groups_from, track_group, track_groups};
 
@@ -29,8 +29,9 @@ fn list_track_sources(
 ) -> Result<(), NoMemory>
     requires tile { IsWithin grid.now.width grid.now.height tile }
     requires track { track < 64 }
-    ensures { OnOk result (sources.new.items
-        ≡ outputs tile.kind (first_wire grid.now.width grid.now.height tile.at) ++ tracks_beside grid.now.width grid.now.height track tile.at) }
+    ensures { OnOk result
+        (sources.new.items ≡ outputs tile.kind (first_wire grid.now.width grid.now.height tile.at)
+        ++ tracks_beside grid.now.width grid.now.height track tile.at) }
 {
     let first = grid.first_wire(tile.at);
     sources.clear();
@@ -50,8 +51,8 @@ fn put_track(
     requires tile { IsWithin grid.now.width grid.now.height tile }
     requires bit { bit ≤ 900 }
     requires track { track < 64 }
-    ensures { OnOk result (text.new.items
-        ≡ text.old.items ++ text_of_lines (group_lines tile.kind tile.at bit (track_group grid.now.width grid.now.height tile.kind tile.at track))) }
+    ensures { OnOk result (text.new.items ≡ text.old.items ++ text_of_lines (group_lines tile.kind
+        tile.at bit (track_group grid.now.width grid.now.height tile.kind tile.at track))) }
 {
     let target = grid.first_wire(tile.at) + track_place(tile.kind) + track;
     let size = track_size(tile.kind);
@@ -69,8 +70,8 @@ pub fn put_tracks(
 ) -> Result<(), NoMemory>
     requires tile { IsWithin grid.now.width grid.now.height tile }
     requires first { first ≤ 200 }
-    ensures { OnOk result (text.new.items
-        ≡ text.old.items ++ text_of_lines (groups_from tile.kind tile.at first (track_groups grid.now.width grid.now.height tile.kind tile.at))) }
+    ensures { OnOk result (text.new.items ≡ text.old.items ++ text_of_lines (groups_from tile.kind
+        tile.at first (track_groups grid.now.width grid.now.height tile.kind tile.at))) }
 {
     let size = track_size(tile.kind);
     let mut bit = first;

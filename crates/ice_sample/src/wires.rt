@@ -1,6 +1,6 @@
 //! The sections of the wires: the names of each wire.
 ghost use Rattle.std.specs.Prelude.{◌≡◌, ◌++◌, ◌+◌, ◌<◌, ◌≤◌, ◌∷◌, [], List, ℕ, map, length, codes, decimal, All, OnOk};
-ghost use Rattle.ice_base.specs.Text.{text_of_lines};
+ghost use Rattle.ice_base.specs.Lines.{text_of_lines};
 ghost use Rattle.ice_sample.specs.Tiles.{IsWithin};
 ghost use Rattle.ice_sample.specs.Lines.{place_words};
 ghost use Rattle.ice_sample.specs.Kinds.{kind_at};
@@ -34,7 +34,8 @@ const CONTROL_NAMES: [&[u8]; 4] = [
 
 // Writes the heading of a wire.
 fn put_wire_heading(text: &mut Vec<u8>, wire: u32) -> Result<(), NoMemory>
-    ensures { OnOk result (text.new.items ≡ text.old.items ++ text_of_lines (wire_heading wire ∷ [])) }
+    ensures { OnOk result
+        (text.new.items ≡ text.old.items ++ text_of_lines (wire_heading wire ∷ [])) }
 {
     put_worded(text, b".net ", u64::from(wire))?;
     end_line(text)
@@ -42,7 +43,8 @@ fn put_wire_heading(text: &mut Vec<u8>, wire: u32) -> Result<(), NoMemory>
 
 // Writes the row of a name.
 fn put_name(text: &mut Vec<u8>, at: TileAt, name: &[u8]) -> Result<(), NoMemory>
-    ensures { OnOk result (text.new.items ≡ text.old.items ++ text_of_lines (name_line at name.now ∷ [])) }
+    ensures { OnOk result
+        (text.new.items ≡ text.old.items ++ text_of_lines (name_line at name.now ∷ [])) }
 {
     put_place(text, at)?;
     text.push(b' ')?;
@@ -77,7 +79,8 @@ fn put_cell_name(text: &mut Vec<u8>, at: TileAt, cell: u32, pin: &[u8]) -> Resul
 
 // Writes a wire with one name.
 fn put_wire(text: &mut Vec<u8>, at: TileAt, wire: u32, name: &[u8]) -> Result<(), NoMemory>
-    ensures { OnOk result (text.new.items ≡ text.old.items ++ text_of_lines (wire_lines at wire name.now)) }
+    ensures { OnOk result
+        (text.new.items ≡ text.old.items ++ text_of_lines (wire_lines at wire name.now)) }
 {
     put_wire_heading(text, wire)?;
     put_name(text, at, name)
@@ -109,7 +112,8 @@ fn put_track_wire(text: &mut Vec<u8>, at: TileAt, wire: u32, track: u32) -> Resu
 
 // Writes a global wire, which has its name in each of the tiles.
 fn put_global_wire(text: &mut Vec<u8>, tiles: &[Tile], global: u32) -> Result<(), NoMemory>
-    ensures { OnOk result (text.new.items ≡ text.old.items ++ text_of_lines (global_wire_lines tiles.now global)) }
+    ensures { OnOk result
+        (text.new.items ≡ text.old.items ++ text_of_lines (global_wire_lines tiles.now global)) }
 {
     put_wire_heading(text, global)?;
     for tile in tiles {
@@ -120,7 +124,8 @@ fn put_global_wire(text: &mut Vec<u8>, tiles: &[Tile], global: u32) -> Result<()
 
 // Writes the global wires.
 fn put_global_wires(text: &mut Vec<u8>, tiles: &[Tile]) -> Result<(), NoMemory>
-    ensures { OnOk result (text.new.items ≡ text.old.items ++ text_of_lines (all_global_lines tiles.now)) }
+    ensures { OnOk result
+        (text.new.items ≡ text.old.items ++ text_of_lines (all_global_lines tiles.now)) }
 {
     for global in 0..8 {
         put_global_wire(text, tiles, global)?;
@@ -137,8 +142,8 @@ fn put_named_wires(
 ) -> Result<(), NoMemory>
     requires few { length names.now ≤ 64 }
     requires first { first ≤ 501000 }
-    ensures { OnOk result (text.new.items
-        ≡ text.old.items ++ text_of_lines (named_wires at first (map (λ name. name.now) names.now))) }
+    ensures { OnOk result (text.new.items ≡ text.old.items
+        ++ text_of_lines (named_wires at first (map (λ name. name.now) names.now))) }
 {
     let mut wire = first;
     for name in names {
@@ -158,8 +163,8 @@ fn put_cell_wires(
 ) -> Result<(), NoMemory>
     requires few { length pins.now ≤ 64 }
     requires first { first ≤ 501000 }
-    ensures { OnOk result (text.new.items
-        ≡ text.old.items ++ text_of_lines (named_wires at first (map (λ pin. cell_name cell pin.now) pins.now))) }
+    ensures { OnOk result (text.new.items ≡ text.old.items
+        ++ text_of_lines (named_wires at first (map (λ pin. cell_name cell pin.now) pins.now))) }
 {
     let mut wire = first;
     for pin in pins {
@@ -172,7 +177,8 @@ fn put_cell_wires(
 // Writes the wires of the logic cells of a tile.
 fn put_all_cell_wires(text: &mut Vec<u8>, at: TileAt, first: u32) -> Result<(), NoMemory>
     requires { first ≤ 500000 }
-    ensures { OnOk result (text.new.items ≡ text.old.items ++ text_of_lines (named_wires at first cell_names)) }
+    ensures { OnOk result
+        (text.new.items ≡ text.old.items ++ text_of_lines (named_wires at first cell_names)) }
 {
     for cell in 0..8 {
         put_cell_wires(text, at, first + 6 * cell, cell, &CELL_PINS)?;
@@ -183,7 +189,8 @@ fn put_all_cell_wires(text: &mut Vec<u8>, at: TileAt, first: u32) -> Result<(), 
 // Writes the tracks of a tile.
 fn put_track_wires(text: &mut Vec<u8>, at: TileAt, first: u32) -> Result<(), NoMemory>
     requires { first ≤ 501000 }
-    ensures { OnOk result (text.new.items ≡ text.old.items ++ text_of_lines (named_wires at first track_names)) }
+    ensures { OnOk result
+        (text.new.items ≡ text.old.items ++ text_of_lines (named_wires at first track_names)) }
 {
     for track in 0..64 {
         put_track_wire(text, at, first + track, track)?;
@@ -193,7 +200,8 @@ fn put_track_wires(text: &mut Vec<u8>, at: TileAt, first: u32) -> Result<(), NoM
 
 // Writes that a wire is the carry into the tile at a place, if that is a logic tile.
 fn put_carry_in(text: &mut Vec<u8>, kind: Option<TileKind>, at: TileAt) -> Result<(), NoMemory>
-    ensures { OnOk result (text.new.items ≡ text.old.items ++ text_of_lines (carry_in_line kind at)) }
+    ensures { OnOk result
+        (text.new.items ≡ text.old.items ++ text_of_lines (carry_in_line kind at)) }
 {
     match kind {
         None => Ok(()),
@@ -205,8 +213,8 @@ fn put_carry_in(text: &mut Vec<u8>, kind: Option<TileKind>, at: TileAt) -> Resul
 // Writes the wires of an IO tile, from its first.
 fn put_io_wires(text: &mut Vec<u8>, at: TileAt, first: u32) -> Result<(), NoMemory>
     requires { first ≤ 500000 }
-    ensures { OnOk result (text.new.items
-        ≡ text.old.items ++ text_of_lines (named_wires at first io_names ++ named_wires at (first + 7) track_names)) }
+    ensures { OnOk result (text.new.items ≡ text.old.items ++ text_of_lines
+        (named_wires at first io_names ++ named_wires at (first + 7) track_names)) }
 {
     put_named_wires(text, at, first, &IO_NAMES)?;
     put_track_wires(text, at, first + 7)
@@ -216,8 +224,8 @@ fn put_io_wires(text: &mut Vec<u8>, at: TileAt, first: u32) -> Result<(), NoMemo
 fn put_logic_wires(text: &mut Vec<u8>, grid: &Grid, at: TileAt, first: u32) -> Result<(), NoMemory>
     requires row { at.y < 64 }
     requires first { first ≤ 500000 }
-    ensures { OnOk result (text.new.items
-        ≡ text.old.items ++ text_of_lines (own_wire_lines grid.now.width grid.now.height TileKind.Logic at first)) }
+    ensures { OnOk result (text.new.items ≡ text.old.items
+        ++ text_of_lines (own_wire_lines grid.now.width grid.now.height TileKind.Logic at first)) }
 {
     let north = TileAt {
         x: at.x,
@@ -244,8 +252,8 @@ fn put_tile_wires(text: &mut Vec<u8>, grid: &Grid, tile: Tile) -> Result<(), NoM
 
 /// Writes the sections of the wires.
 pub fn put_wires(text: &mut Vec<u8>, grid: &Grid) -> Result<(), NoMemory>
-    ensures { OnOk result (text.new.items
-        ≡ text.old.items ++ text_of_lines (all_wire_lines grid.now.width grid.now.height grid.now.tiles.items)) }
+    ensures { OnOk result (text.new.items ≡ text.old.items
+        ++ text_of_lines (all_wire_lines grid.now.width grid.now.height grid.now.tiles.items)) }
 {
     put_global_wires(text, &grid.tiles)?;
     for tile in &grid.tiles {

@@ -7,7 +7,8 @@ use Rattle.std.proofs.lemmas.List.FromFn.{length-range_with_len}
 use Rattle.std.proofs.lemmas.List.Elements.{All-map, All-filter}
 use Rattle.std.proofs.lemmas.Option.{same_Some, slice_get_within}
 use Rattle.ice_base.specs.declared.number.TileAt.{TileAt}
-use Rattle.ice_base_values.specs.System.{System, MeetsEquation, reading}
+use Rattle.ice_base_values.specs.System.{System, reading}
+use Rattle.ice_base_values.specs.Simulations.{MeetsEquation}
 use Rattle.ice_base_values.specs.Order.{At, Has}
 use Rattle.ice_base_values.proofs.Values.{value_ranked}
 use Rattle.ice_base_values.proofs.Gaps.{local_gapped}
@@ -26,7 +27,7 @@ use Rattle.ice_chip.specs.Names.{input_name, pad_output_name, output_enable_name
 use Rattle.ice_decode.specs.Cells.{cells, logic_tiles, looked_up}
 use Rattle.ice_decode.specs.Reads.{wire_point, carry_point, points, count_points, at_pin, reads_at}
 use Rattle.ice_decode.specs.Pads.{is_enabled, level_of, pad_gives, pin_type, pin_level, part_drive, stores, register_place, output_kept, has_output_register}
-use Rattle.ice_decode.specs.Faults.{IsOrderOf}
+use Rattle.ice_decode.specs.Loops.{IsOrderOf}
 use Rattle.ice_decode.specs.Meaning.{makes_at, chip_system, point_level, table_level, drive_at}
 use Rattle.ice_decode.proofs.PointPlaces.{wire_at}
 use Rattle.ice_sim_sweep.specs.Slots.{level_at}

@@ -11,7 +11,7 @@ use Rattle.ice_decode.specs.Meaning.{point_level, drive_at, chip_step}
 use Rattle.ice_sim_sweep.specs.declared.parts.Memory.{Memory}
 use Rattle.ice_sim_sweep.specs.declared.parts.Feed.{Feed}
 use Rattle.ice_sim_sweep.specs.declared.parts.Feed.TheVariants.{Nothing}
-use Rattle.ice_sim_sweep.specs.declared.plan.Plan.{Plan}
+use Rattle.ice_sim_sweep.specs.declared.plan.SweepPlan.{SweepPlan}
 use Rattle.ice_sim_sweep.specs.Slots.{level_at}
 use Rattle.ice_sim_sweep.specs.Feeds.{port_in, kept_in}
 use Rattle.ice_sim_sweep.specs.Sweeps.{blank, kept_levels, copied, made, tap_drive, remembered}
@@ -26,7 +26,7 @@ use Rattle.ice_sim.proofs.ChipStates.{followed, all_follow, state_is, kept_next,
 use Rattle.ice_sim.proofs.ChipBounds.{fed_append, stores_fed, outputs_fed, ports_within, keeps_within, gates_within, taps_within, keepers_within}
 
 -- ---- the plan
-module _ (parts : Parts) (bits : Bits) (extras : List (ℕ × ℕ × ℕ)) (bonded : List Pad) (feeds : List Feed) (plan : Plan) (p : IsChipPlan parts bits extras bonded feeds plan) where
+module _ (parts : Parts) (bits : Bits) (extras : List (ℕ × ℕ × ℕ)) (bonded : List Pad) (feeds : List Feed) (plan : SweepPlan) (p : IsChipPlan parts bits extras bonded feeds plan) where
   abbrev ports : ℕ
   ports = length bonded
 

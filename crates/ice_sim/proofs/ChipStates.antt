@@ -14,7 +14,7 @@ use Rattle.ice_net.specs.declared.kind.Reset.TheVariants as reset
 use Rattle.ice_decode.specs.declared.point.Point.{Point}
 use Rattle.ice_decode.specs.Cells.{has_flop, reset_of}
 use Rattle.ice_decode.specs.Pads.{pad_gives, pin_level, Store, CellStore, InputStore, OutputStore, stores, has_input_register, has_output_register}
-use Rattle.ice_decode.specs.Faults.{IsOrderOf}
+use Rattle.ice_decode.specs.Loops.{IsOrderOf}
 use Rattle.ice_decode.specs.Meaning.{point_level, table_level, clock_level, flop_after, register_after, store_after, store_kept_after, clock_after, state_after, chip_start}
 use Rattle.ice_sim_sweep.specs.declared.parts.Keeper.{Keeper}
 use Rattle.ice_sim_sweep.specs.declared.parts.Memory.{Memory}

@@ -8,10 +8,10 @@ use Rattle.ice_decode.specs.declared.point.Point.{Point}
 use Rattle.ice_decode.specs.declared.point.Point.TheVariants.{Wire, Carry}
 use Rattle.ice_decode.specs.Pads.{stores}
 use Rattle.ice_decode.specs.Reads.{count_points}
-use Rattle.ice_decode.specs.Faults.{IsOrderOf}
+use Rattle.ice_decode.specs.Loops.{IsOrderOf}
 use Rattle.ice_decode.specs.Points.{HasWire}
 use Rattle.ice_sim_sweep.specs.declared.parts.Memory.{Memory}
-use Rattle.ice_sim_sweep.specs.declared.plan.Plan.{Plan}
+use Rattle.ice_sim_sweep.specs.declared.plan.SweepPlan.{SweepPlan}
 use Rattle.ice_sim_sweep.specs.Sweeps.{blank}
 use Rattle.ice_sim.specs.declared.stores.Stores.{Stores}
 use Rattle.ice_sim.specs.Layouts.{IsPointBelow}
@@ -41,7 +41,7 @@ counted parts s are =
     omega arith
 
 -- a run begins with what was compiled
-pub run_begins : (parts : Parts) (bits : Bits) (extras : List (ℕ × ℕ × ℕ)) (bonded : List Pad) (plan : Plan) (memories : List Memory) (values : List Bool) → (c : IsCompiled parts bits extras bonded plan values)
+pub run_begins : (parts : Parts) (bits : Bits) (extras : List (ℕ × ℕ × ℕ)) (bonded : List Pad) (plan : SweepPlan) (memories : List Memory) (values : List Bool) → (c : IsCompiled parts bits extras bonded plan values)
     → memories ≡ replicate (length (stores parts)) blank → IsChipRun parts bits extras bonded c.feeds plan memories values
 run_begins parts bits extras bonded plan memories values c e =
     subst (λ (ms : List Memory). IsChipRun parts bits extras bonded c.feeds plan ms values) (sym e)

@@ -30,7 +30,7 @@ use Rattle.ice_decode.specs.Cells.{cells, has_carry, has_flop}
 use Rattle.ice_decode.specs.Reads.{count_points, at_pin, carry_into, global_feed, reads_at}
 use Rattle.ice_decode.specs.Direct.{takes_pad}
 use Rattle.ice_decode.specs.Pads.{is_enabled, pads, cell_store, pad_stores, stores, register_place, has_input_register}
-use Rattle.ice_decode.specs.Faults.{IsOrderOf}
+use Rattle.ice_decode.specs.Loops.{IsOrderOf}
 use Rattle.ice_decode.specs.Meaning.{passes, makes_at}
 use Rattle.ice_sim_sweep.specs.declared.parts.Feed.{Feed}
 use Rattle.ice_sim_sweep.specs.declared.parts.Feed.TheVariants.{Nothing, Kept, Made}
@@ -42,7 +42,7 @@ use Rattle.ice_sim.specs.ChipSlots.{cell_place, number, slot_in, slots_gate, cel
 use Rattle.ice_sim.specs.Layouts.{Layout, placed, laid, ones_table, bare_layout}
 use Rattle.ice_sim.proofs.PointLevels.{slot_level, point_is}
 use Rattle.ice_sim.proofs.PointNumbers.{IsIn, is_in, cell_within, number_within, number_once}
-use Rattle.ice_sim.proofs.RoleCells.{IsSmall, role_small}
+use Rattle.ice_decode.proofs.RolePlaces.{IsOfCell, role_of_cell}
 
 -- ---- feeds
 pub fed_push : (ports cells s : ℕ) (feeds : List Feed) (feed : Feed) → AreFed ports cells s feeds → IsFed ports cells (s + length feeds) feed → AreFed ports cells s (feeds ++ feed ∷ [])
@@ -153,43 +153,43 @@ module _ (parts : Parts) (bits : Bits) (extras : List (ℕ × ℕ × ℕ)) (bond
   fed_fits None = omega arith
   fed_fits (Some pad) = pad_fits pad
 
-  role_fits : (role : Role) → IsSmall role → Fits (role_slot parts bits extras bonded slots next role)
-  role_fits Plain small = omega arith
-  role_fits (Output t i) small = of (has_flop parts bits t i)
+  role_fits : (role : Role) → IsOfCell parts role → Fits (role_slot parts bits extras bonded slots next role)
+  role_fits Plain cell = omega arith
+  role_fits (Output t i) cell = of (has_flop parts bits t i)
     where
       of : (b : Bool) → Fits (cond b (kept_slot (cell_place parts t i)) (table_slot parts bits slots next t i))
-      of true = kept_fits t i small
+      of true = kept_fits t i cell.below
       of false = table_fits t i
-  role_fits (LookUp t i) small = table_fits t i
-  role_fits (CarryOut t i) small = low (number parts (Carry t i))
-  role_fits (PadInput pad) small = of (has_input_register parts bits pad)
+  role_fits (LookUp t i) cell = table_fits t i
+  role_fits (CarryOut t i) cell = low (number parts (Carry t i))
+  role_fits (PadInput pad) cell = of (has_input_register parts bits pad)
     where
       of : (b : Bool) → Fits (cond b (Own (pad_register parts pad 0)) (pad_slot parts bits bonded pad))
       of true = register_fits (length bonded) (length (stores parts)) next (register_place parts pad) 0
       of false = pad_fits pad
-  role_fits (Global n) small = of (takes_pad parts extras n)
+  role_fits (Global n) cell = of (takes_pad parts extras n)
     where
       of : (b : Bool) → Fits (cond b (fed_slot parts bits bonded (gbufpin_of parts n)) (Shared (reading 0 (slot_in parts slots) (global_feed parts n))))
       of true = fed_fits (gbufpin_of parts n)
       of false = read_low (global_feed parts n)
-  role_fits (CarryIn t) small = of (set_at parts bits t (codes "CarryInSet") 0)
+  role_fits (CarryIn t) cell = of (set_at parts bits t (codes "CarryInSet") 0)
     where
       of : (b : Bool) → cond b 1 0 < next
       of true = some
       of false = omega arith
-  role_fits ClockEnable small = some
+  role_fits ClockEnable cell = some
 
-  driven_fits : (role : Role) (d : Driver) → IsSmall role → Fits (driven_slot parts bits extras bonded slots next role d)
-  driven_fits role driver.Nothing small = role_fits role small
-  driven_fits role (driver.By s) small = of (passes parts bits s)
+  driven_fits : (role : Role) (d : Driver) → IsOfCell parts role → Fits (driven_slot parts bits extras bonded slots next role d)
+  driven_fits role driver.Nothing cell = role_fits role cell
+  driven_fits role (driver.By s) cell = of (passes parts bits s)
     where
       of : (b : Bool) → cond b (slot_in parts slots (Wire s.source)) 0 < next
       of true = low (number parts (Wire s.source))
       of false = omega arith
-  driven_fits role (driver.Several first second) small = omega arith
+  driven_fits role (driver.Several first second) cell = omega arith
 
   pub point_fits : (p : Point) → Fits (point_slot parts bits extras bonded slots next p)
-  point_fits (Wire w) = driven_fits (role_of parts w.0) (driver_of parts bits w.0) (role_small parts w.0)
+  point_fits (Wire w) = driven_fits (role_of parts w.0) (driver_of parts bits w.0) (role_of_cell parts w.0)
   point_fits (Carry t i) = of (has_carry parts bits t i)
     where
       of : (b : Bool) → Fits (cond b (Own (Made (carry_gate parts slots next t i))) (Shared 0))

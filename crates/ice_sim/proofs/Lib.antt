@@ -1,7 +1,6 @@
 pub mod TableBits
 pub mod PointLevels
 pub mod PointNumbers
-pub mod RoleCells
 pub mod Laying
 pub mod ChipLevels
 pub mod ChipStates

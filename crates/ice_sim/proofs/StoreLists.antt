@@ -4,7 +4,8 @@ use Rattle.std.specs.List.{flat_map}
 use Rattle.std.proofs.lemmas.List.{length-map}
 use Rattle.ice_base.specs.declared.number.TileAt.{TileAt}
 use Rattle.ice_chip.specs.Database.{Parts}
-use Rattle.ice_chip.specs.Lookups.{tile_of, is_io_kind}
+use Rattle.ice_chip.specs.Lookups.{is_io_kind}
+use Rattle.ice_chip.specs.Listings.{tile_of}
 use Rattle.ice_chip.specs.declared.rows.TileLine.{TileLine}
 use Rattle.ice_chip.specs.declared.rows.Pad.{Pad}
 use Rattle.ice_chip.specs.declared.tile.Tile.{Tile}

@@ -7,7 +7,7 @@ use Rattle.ice_chip.specs.Database.{same_tile, same_pad}
 use Rattle.ice_chip.specs.declared.rows.Pad.{Pad}
 use Rattle.ice_chip.proofs.Keys.{tile_turned, pad_turned}
 use Rattle.ice_decode.specs.Cells.{tile_place}
-use Rattle.ice_decode.specs.Faults.{or_else}
+use Rattle.ice_decode.specs.FirstFaults.{or_else}
 use Rattle.ice_base.proofs.Keys.{tile_same}
 use Rattle.ice_sim.specs.ChipSlots.{pad_place}
 use Rattle.ice_sim.specs.ConfiguredChips.{put_place, with_place, with_places}

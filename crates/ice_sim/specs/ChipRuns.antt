@@ -7,11 +7,11 @@ use Rattle.ice_bits.specs.Configuration.{Bits, Configuration}
 use Rattle.ice_net.specs.Meaning.{State}
 use Rattle.ice_decode.specs.declared.point.Point.{Point}
 use Rattle.ice_decode.specs.Pads.{Store, stores}
-use Rattle.ice_decode.specs.Faults.{IsOrderOf}
+use Rattle.ice_decode.specs.Loops.{IsOrderOf}
 use Rattle.ice_sim_sweep.specs.declared.parts.Feed.{Feed}
 use Rattle.ice_sim_sweep.specs.declared.parts.Feed.TheVariants.{Nothing}
 use Rattle.ice_sim_sweep.specs.declared.parts.Memory.{Memory}
-use Rattle.ice_sim_sweep.specs.declared.plan.Plan.{Plan}
+use Rattle.ice_sim_sweep.specs.declared.plan.SweepPlan.{SweepPlan}
 use Rattle.ice_sim_sweep.specs.Slots.{level_at}
 use Rattle.ice_sim_sweep.specs.Sweeps.{blank}
 use Rattle.ice_sim_sweep.specs.Arrays.{feed_at, IsWired}
@@ -26,7 +26,7 @@ pub record ChipRunData : Type 0 where
 
 -- ---- what is compiled
 -- bits of a chip, compiled: behind the slots of points stand those of the stores, and behind them those of the pads of the package
-pub record IsChipPlan (parts : Parts) (bits : Bits) (extras : List (ℕ × ℕ × ℕ)) (bonded : List Pad) (feeds : List Feed) (plan : Plan) : Type 0 where
+pub record IsChipPlan (parts : Parts) (bits : Bits) (extras : List (ℕ × ℕ × ℕ)) (bonded : List Pad) (feeds : List Feed) (plan : SweepPlan) : Type 0 where
   pub chip : IsChip parts
   pub order : List Point
   pub ordered : IsOrderOf parts bits extras order
@@ -52,7 +52,7 @@ AreKept parts bits (s ∷ stores) [] = ⊥
 AreKept parts bits (s ∷ stores) (memory ∷ memories) = IsBlankUnless (is_used parts bits s) memory × AreKept parts bits stores memories
 
 -- what a run holds between two steps
-pub record IsChipRun (parts : Parts) (bits : Bits) (extras : List (ℕ × ℕ × ℕ)) (bonded : List Pad) (feeds : List Feed) (plan : Plan) (memories : List Memory) (values : List Bool)
+pub record IsChipRun (parts : Parts) (bits : Bits) (extras : List (ℕ × ℕ × ℕ)) (bonded : List Pad) (feeds : List Feed) (plan : SweepPlan) (memories : List Memory) (values : List Bool)
     : Type 0 where
   pub planned : IsChipPlan parts bits extras bonded feeds plan
   pub remembers : AreKept parts bits (stores parts) memories
@@ -60,7 +60,7 @@ pub record IsChipRun (parts : Parts) (bits : Bits) (extras : List (ℕ × ℕ ×
   pub unfed : (s : ℕ) → s < length feeds → feed_at feeds s ≡ Nothing → level_at values s ≡ false
 
 -- a plan just compiled, with the array for it
-pub record IsCompiled (parts : Parts) (bits : Bits) (extras : List (ℕ × ℕ × ℕ)) (bonded : List Pad) (plan : Plan) (values : List Bool) : Type 0 where
+pub record IsCompiled (parts : Parts) (bits : Bits) (extras : List (ℕ × ℕ × ℕ)) (bonded : List Pad) (plan : SweepPlan) (values : List Bool) : Type 0 where
   pub feeds : List Feed
   pub planned : IsChipPlan parts bits extras bonded feeds plan
   pub empty : values ≡ replicate (length feeds) false

@@ -16,7 +16,8 @@ use ice_sim_sweep::{Feed, Keeper};
 
 // Which way the flip-flop of a cell is set or reset.
 fn reset(configured: &ConfiguredChip<'_>, tile: TileAt, cell: u8) -> Reset
-    ensures { result ≡ reset_of configured.now.parts (bits_of configured.now.configuration) tile cell }
+    ensures { result
+        ≡ reset_of configured.now.parts (bits_of configured.now.configuration) tile cell }
 {
     let set = cell_bit(configured.chip(), configured.bits(), tile, cell, 18);
     let at_once = cell_bit(configured.chip(), configured.bits(), tile, cell, 19);
@@ -32,8 +33,8 @@ fn keeper(
     tile: TileAt,
     cell: u8,
 ) -> Keeper
-    ensures { result
-        ≡ keeper_of configured.now.parts (bits_of configured.now.configuration) slots.now place datum (tile, cell) }
+    ensures { result ≡ keeper_of configured.now.parts (bits_of configured.now.configuration)
+        slots.now place datum (tile, cell) }
 {
     Keeper {
         cell: place,
@@ -56,9 +57,11 @@ fn add_flop(
     keepers: &mut Vec<Keeper>,
 ) -> Result<(), NoMemory>
     ensures feeds { OnOk result (feeds.new.items
-        ≡ feeds.old.items ++ store_feeds configured.now.parts (bits_of configured.now.configuration) configured.now.bonded slots.now (length feeds.old.items) (cell_store cell)) }
-    ensures keepers { OnOk result (keepers.new.items
-        ≡ keepers.old.items ++ store_keepers configured.now.parts (bits_of configured.now.configuration) slots.now place (length feeds.old.items) (cell_store cell)) }
+        ≡ feeds.old.items ++ store_feeds configured.now.parts (bits_of configured.now.configuration)
+        configured.now.bonded slots.now (length feeds.old.items) (cell_store cell)) }
+    ensures keepers { OnOk result (keepers.new.items ≡ keepers.old.items
+        ++ store_keepers configured.now.parts (bits_of configured.now.configuration) slots.now place
+        (length feeds.old.items) (cell_store cell)) }
 {
     let (tile, number) = cell;
     if !has_flop(configured.chip(), configured.bits(), tile, number) {
@@ -83,9 +86,11 @@ pub(crate) fn add_flops(
 ) -> Result<(), NoMemory>
     requires { keepers.old.items ≡ [] }
     ensures feeds { OnOk result (feeds.new.items
-        ≡ feeds.old.items ++ feeds_from configured.now.parts (bits_of configured.now.configuration) configured.now.bonded slots.now (length feeds.old.items) (flat_map cell_stores cells.now)) }
-    ensures keepers { OnOk result (keepers.new.items
-        ≡ keepers_from configured.now.parts (bits_of configured.now.configuration) configured.now.bonded slots.now 0 (length feeds.old.items) (flat_map cell_stores cells.now)) }
+        ≡ feeds.old.items ++ feeds_from configured.now.parts (bits_of configured.now.configuration)
+        configured.now.bonded slots.now (length feeds.old.items) (flat_map cell_stores cells.now)) }
+    ensures keepers { OnOk result (keepers.new.items ≡ keepers_from configured.now.parts
+        (bits_of configured.now.configuration) configured.now.bonded slots.now 0
+        (length feeds.old.items) (flat_map cell_stores cells.now)) }
 {
     for (place, cell) in cells.iter().enumerate() {
         add_flop(configured, slots, place, *cell, feeds, keepers)?;

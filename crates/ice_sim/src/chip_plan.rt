@@ -2,7 +2,7 @@
 ghost use Rattle.std.specs.Prelude.{◌≡◌, ◌++◌, false, length, map, replicate, IfOk, OnOk};
 ghost use Rattle.ice_chip.specs.IsRead.{IsChip};
 ghost use Rattle.ice_bits.specs.Configuration.{bits_of};
-ghost use Rattle.ice_decode.specs.Faults.{IsOrderOf};
+ghost use Rattle.ice_decode.specs.Loops.{IsOrderOf};
 ghost use Rattle.ice_decode.specs.Refusals.{IsCircuitOf};
 ghost use Rattle.ice_decode.specs.Pads.{stores};
 ghost use Rattle.ice_sim_sweep.specs.Arrays.{IsWired};
@@ -19,7 +19,7 @@ use crate::stores::{Stores, small};
 use ice_base::NoMemory;
 use ice_chip::{Chip, Package};
 use ice_decode::{Circuit, Point};
-use ice_sim_sweep::{Feed, Keeper, Plan, wired};
+use ice_sim_sweep::{Feed, Keeper, SweepPlan, wired};
 use std::alloc::Global;
 
 // So many slots, all 0.
@@ -46,10 +46,13 @@ fn lay_out(
     order: &[Point],
 ) -> Result<(Vec<u32>, Vec<Feed>), NoMemory>
     requires stores { AreStoresOf configured.now.parts stores.now }
-    requires order { IsOrderOf configured.now.parts (bits_of configured.now.configuration) configured.now.configuration.extras order.now }
+    requires order { IsOrderOf configured.now.parts (bits_of configured.now.configuration)
+        configured.now.configuration.extras order.now }
     ensures chip { OnOk result (IsChip configured.now.parts) }
-    ensures layout { IfOk result (λ out. layout_of out.0.items out.1.items
-        ≡ laid configured.now.parts (bits_of configured.now.configuration) configured.now.configuration.extras configured.now.bonded order.now (bare_layout configured.now.parts)) }
+    ensures layout { IfOk result (λ out.
+        layout_of out.0.items out.1.items ≡ laid configured.now.parts
+        (bits_of configured.now.configuration) configured.now.configuration.extras
+        configured.now.bonded order.now (bare_layout configured.now.parts)) }
 {
     let points = configured.chip().wires() as usize + stores.cells.len();
     let mut slots = zeros(alloc, points)?;
@@ -68,9 +71,11 @@ fn keepers(
 ) -> Result<Vec<Keeper>, NoMemory>
     requires { AreStoresOf configured.now.parts all.now }
     ensures feeds { OnOk result (feeds.new.items
-        ≡ feeds.old.items ++ feeds_from configured.now.parts (bits_of configured.now.configuration) configured.now.bonded slots.now (length feeds.old.items) (stores configured.now.parts)) }
-    ensures keepers { IfOk result (λ keepers. keepers.items
-        ≡ keepers_from configured.now.parts (bits_of configured.now.configuration) configured.now.bonded slots.now 0 (length feeds.old.items) (stores configured.now.parts)) }
+        ≡ feeds.old.items ++ feeds_from configured.now.parts (bits_of configured.now.configuration)
+        configured.now.bonded slots.now (length feeds.old.items) (stores configured.now.parts)) }
+    ensures keepers { IfOk result (λ keepers.
+        keepers.items ≡ keepers_from configured.now.parts (bits_of configured.now.configuration)
+        configured.now.bonded slots.now 0 (length feeds.old.items) (stores configured.now.parts)) }
 {
     let mut keepers = Vec::new(alloc);
     add_flops(configured, slots, &all.cells, feeds, &mut keepers)?;
@@ -86,13 +91,15 @@ fn plan_of(
     slots: &[u32],
     keepers: Vec<Keeper>,
     feeds: &mut Vec<Feed>,
-) -> Result<Plan, NoMemory>
-    ensures feeds { OnOk result (feeds.new.items
-        ≡ feeds.old.items ++ map (output_feed configured.now.parts (bits_of configured.now.configuration)) configured.now.bonded) }
+) -> Result<SweepPlan, NoMemory>
+    ensures feeds { OnOk result (feeds.new.items ≡ feeds.old.items
+        ++ map (output_feed configured.now.parts (bits_of configured.now.configuration))
+        configured.now.bonded) }
     ensures wired { IfOk result (IsWired feeds.new.items) }
     ensures keepers { IfOk result (λ plan. plan.keepers.items ≡ keepers.items) }
-    ensures taps { IfOk result (λ plan. plan.taps.items
-        ≡ taps_from configured.now.parts (bits_of configured.now.configuration) slots.now (length feeds.old.items) configured.now.bonded) }
+    ensures taps { IfOk result (λ plan.
+        plan.taps.items ≡ taps_from configured.now.parts (bits_of configured.now.configuration)
+        slots.now (length feeds.old.items) configured.now.bonded) }
 {
     let mut taps = Vec::new(alloc);
     add_taps(configured, slots, feeds, &mut taps)?;
@@ -105,10 +112,13 @@ fn compile_configured(
     configured: &ConfiguredChip<'_>,
     stores: &Stores,
     order: &[Point],
-) -> Result<(Plan, Vec<bool>), NoMemory>
+) -> Result<(SweepPlan, Vec<bool>), NoMemory>
     requires stores { AreStoresOf configured.now.parts stores.now }
-    requires order { IsOrderOf configured.now.parts (bits_of configured.now.configuration) configured.now.configuration.extras order.now }
-    ensures { IfOk result (λ compiled. IsCompiled configured.now.parts (bits_of configured.now.configuration) configured.now.configuration.extras configured.now.bonded compiled.0 compiled.1.items) }
+    requires order { IsOrderOf configured.now.parts (bits_of configured.now.configuration)
+        configured.now.configuration.extras order.now }
+    ensures { IfOk result (λ compiled.
+        IsCompiled configured.now.parts (bits_of configured.now.configuration)
+        configured.now.configuration.extras configured.now.bonded compiled.0 compiled.1.items) }
 {
     let (slots, mut feeds) = lay_out(alloc, configured, stores, order)?;
     let keepers = keepers(alloc, configured, &slots, stores, &mut feeds)?;
@@ -125,10 +135,11 @@ pub(crate) fn compile_chip(
     circuit: &Circuit,
     package: &Package,
     stores: &Stores,
-) -> Result<(Plan, Vec<bool>), NoMemory>
+) -> Result<(SweepPlan, Vec<bool>), NoMemory>
     requires stores { AreStoresOf chip.now stores.now }
     requires circuit { IsCircuitOf chip.now circuit.now.configuration circuit.now }
-    ensures { IfOk result (λ compiled. IsCompiled chip.now (bits_of circuit.now.configuration) circuit.now.configuration.extras «package».now.pads.keys compiled.0 compiled.1.items) }
+    ensures { IfOk result (λ compiled. IsCompiled chip.now (bits_of circuit.now.configuration)
+        circuit.now.configuration.extras «package».now.pads.keys compiled.0 compiled.1.items) }
 {
     let configured = ConfiguredChip::new(alloc, chip, circuit, package, stores)?;
     compile_configured(alloc, &configured, stores, circuit.order())

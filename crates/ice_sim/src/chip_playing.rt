@@ -25,9 +25,11 @@ fn play_step(
     requires levels { length levels.now ≡ length run.old.bonded }
     requires drives { length drives.old ≡ length run.old.bonded }
     ensures run { run.new
-        ≡ with_state run.old (chip_step run.old.parts (bits_of run.old.configuration) run.old.configuration.extras run.old.bonded run.old.bonded run.old.state levels.now).0 }
+        ≡ with_state run.old (chip_step run.old.parts (bits_of run.old.configuration)
+        run.old.configuration.extras run.old.bonded run.old.bonded run.old.state levels.now).0 }
     ensures text { OnOk result (text.new.items
-        ≡ text.old.items ++ drives_line (chip_step run.old.parts (bits_of run.old.configuration) run.old.configuration.extras run.old.bonded run.old.bonded run.old.state levels.now).1) }
+        ≡ text.old.items ++ drives_line (chip_step run.old.parts (bits_of run.old.configuration)
+        run.old.configuration.extras run.old.bonded run.old.bonded run.old.state levels.now).1) }
 {
     run.step(levels, drives);
     put_drives(text, drives)
@@ -44,8 +46,9 @@ pub fn play_chip(
 ) -> Result<Vec<u8>, NoMemory>
     requires circuit { IsCircuitOf chip.now circuit.now.configuration circuit.now }
     requires levels { All (HasWidth (length «package».now.pads.keys)) levels.now }
-    ensures { IfOk result (λ text. text.items
-        ≡ drives_text (bits_show chip.now (bits_of circuit.now.configuration) circuit.now.configuration.extras «package».now.pads.keys «package».now.pads.keys levels.now)) }
+    ensures { IfOk result (λ text. text.items ≡ drives_text
+        (bits_show chip.now (bits_of circuit.now.configuration) circuit.now.configuration.extras
+        «package».now.pads.keys «package».now.pads.keys levels.now)) }
 {
     let mut run = ChipRun::new(alloc, chip, circuit, package)?;
     let mut drives = vec![in alloc; Drive::Off; package.pads.len()]?;

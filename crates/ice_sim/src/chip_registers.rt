@@ -37,8 +37,8 @@ fn register(
 
 // What a pad gives to its register.
 fn input_feed(configured: &ConfiguredChip<'_>, pad: Pad) -> Feed
-    ensures { result
-        ≡ input_feed configured.now.parts (bits_of configured.now.configuration) configured.now.bonded pad }
+    ensures { result ≡ input_feed configured.now.parts (bits_of configured.now.configuration)
+        configured.now.bonded pad }
 {
     if !is_enabled(configured.chip(), configured.bits(), pad) {
         return Feed::Nothing;
@@ -59,9 +59,11 @@ fn add_input(
     keepers: &mut Vec<Keeper>,
 ) -> Result<(), NoMemory>
     ensures feeds { OnOk result (feeds.new.items
-        ≡ feeds.old.items ++ store_feeds configured.now.parts (bits_of configured.now.configuration) configured.now.bonded slots.now (length feeds.old.items) (InputStore pad)) }
-    ensures keepers { OnOk result (keepers.new.items
-        ≡ keepers.old.items ++ store_keepers configured.now.parts (bits_of configured.now.configuration) slots.now place (length feeds.old.items) (InputStore pad)) }
+        ≡ feeds.old.items ++ store_feeds configured.now.parts (bits_of configured.now.configuration)
+        configured.now.bonded slots.now (length feeds.old.items) (InputStore pad)) }
+    ensures keepers { OnOk result (keepers.new.items ≡ keepers.old.items
+        ++ store_keepers configured.now.parts (bits_of configured.now.configuration) slots.now place
+        (length feeds.old.items) (InputStore pad)) }
 {
     if !has_input_register(configured.chip(), configured.bits(), pad) {
         return Ok(());
@@ -80,8 +82,9 @@ fn add_output(
     pad: Pad,
     keepers: &mut Vec<Keeper>,
 ) -> Result<(), NoMemory>
-    ensures { OnOk result (keepers.new.items
-        ≡ keepers.old.items ++ store_keepers configured.now.parts (bits_of configured.now.configuration) slots.now place 0 (OutputStore pad)) }
+    ensures { OnOk result
+        (keepers.new.items ≡ keepers.old.items ++ store_keepers configured.now.parts
+        (bits_of configured.now.configuration) slots.now place 0 (OutputStore pad)) }
 {
     if !has_output_register(configured.chip(), configured.bits(), pad) {
         return Ok(());
@@ -108,9 +111,11 @@ fn add_registers_of(
     keepers: &mut Vec<Keeper>,
 ) -> Result<(), NoMemory>
     ensures feeds { OnOk result (feeds.new.items
-        ≡ feeds.old.items ++ feeds_from configured.now.parts (bits_of configured.now.configuration) configured.now.bonded slots.now (length feeds.old.items) (pad_stores pad)) }
-    ensures keepers { OnOk result (keepers.new.items
-        ≡ keepers.old.items ++ keepers_from configured.now.parts (bits_of configured.now.configuration) configured.now.bonded slots.now place (length feeds.old.items) (pad_stores pad)) }
+        ≡ feeds.old.items ++ feeds_from configured.now.parts (bits_of configured.now.configuration)
+        configured.now.bonded slots.now (length feeds.old.items) (pad_stores pad)) }
+    ensures keepers { OnOk result (keepers.new.items ≡ keepers.old.items
+        ++ keepers_from configured.now.parts (bits_of configured.now.configuration)
+        configured.now.bonded slots.now place (length feeds.old.items) (pad_stores pad)) }
 {
     let second = small(place as usize + 1)?;
     add_input(configured, slots, place, pad, feeds, keepers)?;
@@ -129,9 +134,11 @@ pub(crate) fn add_registers(
     keepers: &mut Vec<Keeper>,
 ) -> Result<(), NoMemory>
     ensures feeds { OnOk result (feeds.new.items
-        ≡ feeds.old.items ++ feeds_from configured.now.parts (bits_of configured.now.configuration) configured.now.bonded slots.now (length feeds.old.items) (flat_map pad_stores pads.now)) }
-    ensures keepers { OnOk result (keepers.new.items
-        ≡ keepers.old.items ++ keepers_from configured.now.parts (bits_of configured.now.configuration) configured.now.bonded slots.now first (length feeds.old.items) (flat_map pad_stores pads.now)) }
+        ≡ feeds.old.items ++ feeds_from configured.now.parts (bits_of configured.now.configuration)
+        configured.now.bonded slots.now (length feeds.old.items) (flat_map pad_stores pads.now)) }
+    ensures keepers { OnOk result (keepers.new.items ≡ keepers.old.items ++ keepers_from
+        configured.now.parts (bits_of configured.now.configuration) configured.now.bonded slots.now
+        first (length feeds.old.items) (flat_map pad_stores pads.now)) }
 {
     for (number, pad) in pads.iter().enumerate() {
         let number = small(number)?;

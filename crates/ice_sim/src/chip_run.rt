@@ -11,7 +11,7 @@ use ice_base::NoMemory;
 use ice_chip::{Chip, Package};
 use ice_decode::Circuit;
 use ice_net::Drive;
-use ice_sim_sweep::{Memory, Plan, blanks, sweep};
+use ice_sim_sweep::{Memory, SweepPlan, blanks, sweep};
 use std::alloc::Global;
 use std::marker::Model;
 
@@ -21,7 +21,7 @@ pub struct ChipRun<'a> {
     chip: &'a Chip,
     circuit: &'a Circuit,
     package: &'a Package,
-    plan: Plan,
+    plan: SweepPlan,
     // What each store keeps: the flip-flops of logic cells, and the registers of pads.
     memories: Vec<Memory>,
     // The level of each slot in the last step.
@@ -52,8 +52,12 @@ impl<'a> ChipRun<'a> {
         package: &'a Package,
     ) -> Result<ChipRun<'a>, NoMemory>
         requires { IsCircuitOf chip.now circuit.now.configuration circuit.now }
-        ensures { IfOk result (λ run. run
-            ≡ record { parts = chip.now; configuration = circuit.now.configuration; bonded = «package».now.pads.keys; state = chip_start chip.now }) }
+        ensures { IfOk result (λ run. run ≡ record {
+          parts = chip.now;
+          configuration = circuit.now.configuration;
+          bonded = «package».now.pads.keys;
+          state = chip_start chip.now;
+        }) }
     {
         let stores = chip_stores(alloc, chip)?;
         let (plan, values) = compile_chip(alloc, chip, circuit, package, &stores)?;
@@ -73,10 +77,12 @@ impl<'a> ChipRun<'a> {
     pub fn step(&mut self, levels: &[bool], out: &mut [Drive])
         requires levels { length levels.now ≡ length self.old.bonded }
         requires out { length out.old ≡ length self.old.bonded }
-        ensures run { self.new
-            ≡ with_state self.old (chip_step self.old.parts (bits_of self.old.configuration) self.old.configuration.extras self.old.bonded self.old.bonded self.old.state levels.now).0 }
-        ensures out { out.new
-            ≡ (chip_step self.old.parts (bits_of self.old.configuration) self.old.configuration.extras self.old.bonded self.old.bonded self.old.state levels.now).1 }
+        ensures run { self.new ≡ with_state self.old
+            (chip_step self.old.parts (bits_of self.old.configuration) self.old.configuration.extras
+            self.old.bonded self.old.bonded self.old.state levels.now).0 }
+        ensures out { out.new ≡ (chip_step self.old.parts (bits_of self.old.configuration)
+            self.old.configuration.extras self.old.bonded self.old.bonded
+            self.old.state levels.now).1 }
     {
         sweep(
             &self.plan,

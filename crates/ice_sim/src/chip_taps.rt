@@ -30,7 +30,8 @@ fn part_tap(part: u8, own: u32, level: u32, enable: u32) -> Tap
 
 // What drives a pad.
 fn pad_tap(configured: &ConfiguredChip<'_>, slots: &[u32], own: u32, pad: Pad) -> Tap
-    ensures { result ≡ pad_tap configured.now.parts (bits_of configured.now.configuration) slots.now own pad }
+    ensures { result
+        ≡ pad_tap configured.now.parts (bits_of configured.now.configuration) slots.now own pad }
 {
     let level = configured.pin_slot(0, slots, pad.tile, &pad_output_name(pad.pio));
     let enable = configured.pin_slot(0, slots, pad.tile, &output_enable_name(pad.pio));
@@ -62,10 +63,12 @@ pub(crate) fn add_taps(
     taps: &mut Vec<Tap>,
 ) -> Result<(), NoMemory>
     requires { taps.old.items ≡ [] }
-    ensures feeds { OnOk result (feeds.new.items
-        ≡ feeds.old.items ++ map (output_feed configured.now.parts (bits_of configured.now.configuration)) configured.now.bonded) }
-    ensures taps { OnOk result (taps.new.items
-        ≡ taps_from configured.now.parts (bits_of configured.now.configuration) slots.now (length feeds.old.items) configured.now.bonded) }
+    ensures feeds { OnOk result (feeds.new.items ≡ feeds.old.items
+        ++ map (output_feed configured.now.parts (bits_of configured.now.configuration))
+        configured.now.bonded) }
+    ensures taps { OnOk result
+        (taps.new.items ≡ taps_from configured.now.parts (bits_of configured.now.configuration)
+        slots.now (length feeds.old.items) configured.now.bonded) }
 {
     for pad in configured.pads().iter() {
         let own = small(feeds.len())?;

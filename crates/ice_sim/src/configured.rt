@@ -99,8 +99,11 @@ impl<'a> ConfiguredChip<'a> {
     ) -> Result<ConfiguredChip<'a>, NoMemory>
         requires circuit { IsCircuitOf chip.now circuit.now.configuration circuit.now }
         requires stores { AreStoresOf chip.now stores.now }
-        ensures { IfOk result (λ configured. configured
-            ≡ record { parts = chip.now; configuration = circuit.now.configuration; bonded = «package».now.pads.keys }) }
+        ensures { IfOk result (λ configured. configured ≡ record {
+          parts = chip.now;
+          configuration = circuit.now.configuration;
+          bonded = «package».now.pads.keys;
+        }) }
     {
         let cells = small(stores.cells.len())?;
         let stores = stores.count()?;

@@ -20,7 +20,8 @@ const MAJORITY: u16 = 0xe8;
 // A bit of a cell, as a number.
 fn digit(configured: &ConfiguredChip<'_>, tile: TileAt, cell: u8, place: usize) -> u16
     ensures { result
-        ≡ (if cell_bit configured.now.parts (bits_of configured.now.configuration) tile cell place then 1 else 0) }
+        ≡ (if cell_bit configured.now.parts (bits_of configured.now.configuration) tile cell place
+        then 1 else 0) }
 {
     u16::from(cell_bit(configured.chip(), configured.bits(), tile, cell, place))
 }
@@ -35,8 +36,9 @@ fn digits(
     third: usize,
     fourth: usize,
 ) -> u16
-    ensures value { result
-        ≡ number_of (map (cell_bit configured.now.parts (bits_of configured.now.configuration) tile cell) (first ∷ second ∷ third ∷ fourth ∷ [])) }
+    ensures value { result ≡ number_of
+        (map (cell_bit configured.now.parts (bits_of configured.now.configuration) tile cell)
+        (first ∷ second ∷ third ∷ fourth ∷ [])) }
     ensures small { result < 16 }
 {
     let lower = digit(configured, tile, cell, first) + 2 * digit(configured, tile, cell, second);
@@ -46,7 +48,8 @@ fn digits(
 
 /// The table of a cell: bit j is its entry for the inputs that make the number j.
 pub(crate) fn table(configured: &ConfiguredChip<'_>, tile: TileAt, cell: u8) -> u16
-    ensures { result ≡ table_of configured.now.parts (bits_of configured.now.configuration) tile cell }
+    ensures { result
+        ≡ table_of configured.now.parts (bits_of configured.now.configuration) tile cell }
 {
     let first = digits(configured, tile, cell, 4, 14, 15, 5);
     let second = digits(configured, tile, cell, 6, 16, 17, 7);
@@ -77,8 +80,10 @@ pub(crate) fn cell_gate(
     cell: u8,
     out: u32,
 ) -> Gate
-    requires { table ≡ table_of configured.now.parts (bits_of configured.now.configuration) tile cell }
-    ensures { result ≡ cell_gate configured.now.parts (bits_of configured.now.configuration) slots.now out tile cell }
+    requires { table
+        ≡ table_of configured.now.parts (bits_of configured.now.configuration) tile cell }
+    ensures { result ≡ cell_gate configured.now.parts (bits_of configured.now.configuration)
+        slots.now out tile cell }
 {
     Gate {
         table,
@@ -92,7 +97,8 @@ pub(crate) fn cell_gate(
 
 // The slot of the carry into a cell.
 fn carry_into(configured: &ConfiguredChip<'_>, slots: &[u32], tile: TileAt, cell: u8) -> u32
-    ensures { result ≡ reading 0 (slot_in configured.now.parts slots.now) (carry_into configured.now.parts tile cell) }
+    ensures { result ≡ reading 0 (slot_in configured.now.parts slots.now)
+        (carry_into configured.now.parts tile cell) }
 {
     if cell == 0 {
         return configured.pin_slot(0, slots, tile, b"carry_in_mux");

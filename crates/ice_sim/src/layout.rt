@@ -65,8 +65,11 @@ fn lay_point(
     feeds: &mut Vec<Feed>,
 ) -> Result<(), NoMemory>
     requires { IsPointBelow configured.now.parts (length slots.old) point }
-    ensures { OnOk result (layout_of slots.new feeds.new.items
-        ≡ placed (point_slot configured.now.parts (bits_of configured.now.configuration) configured.now.configuration.extras configured.now.bonded slots.old (length feeds.old.items) point) (number configured.now.parts point) (layout_of slots.old feeds.old.items)) }
+    ensures { OnOk result (layout_of slots.new feeds.new.items ≡ placed
+        (point_slot configured.now.parts (bits_of configured.now.configuration)
+        configured.now.configuration.extras configured.now.bonded slots.old
+        (length feeds.old.items) point)
+        (number configured.now.parts point) (layout_of slots.old feeds.old.items)) }
 {
     let next = small(feeds.len())?;
     let slot = point_slot(configured, slots, next, point);
@@ -81,8 +84,9 @@ pub(crate) fn lay(
     feeds: &mut Vec<Feed>,
 ) -> Result<(), NoMemory>
     requires { All (IsPointBelow configured.now.parts (length slots.old)) order.now }
-    ensures { OnOk result (layout_of slots.new feeds.new.items
-        ≡ laid configured.now.parts (bits_of configured.now.configuration) configured.now.configuration.extras configured.now.bonded order.now (layout_of slots.old feeds.old.items)) }
+    ensures { OnOk result (layout_of slots.new feeds.new.items ≡ laid configured.now.parts
+        (bits_of configured.now.configuration) configured.now.configuration.extras
+        configured.now.bonded order.now (layout_of slots.old feeds.old.items)) }
 {
     for point in order {
         lay_point(configured, *point, slots, feeds)?;

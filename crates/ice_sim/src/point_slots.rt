@@ -30,7 +30,8 @@ fn table_slot(
     tile: TileAt,
     cell: u8,
 ) -> PointSlot
-    ensures { result ≡ table_slot configured.now.parts (bits_of configured.now.configuration) slots.now next tile cell }
+    ensures { result ≡ table_slot configured.now.parts (bits_of configured.now.configuration)
+        slots.now next tile cell }
 {
     let table = table(configured, tile, cell);
     if table == 0 {
@@ -61,7 +62,8 @@ fn level_slot(place: Option<usize>) -> PointSlot
 
 // The slot of the input of a pad.
 fn pad_slot(configured: &ConfiguredChip<'_>, pad: Pad) -> PointSlot
-    ensures { result ≡ pad_slot configured.now.parts (bits_of configured.now.configuration) configured.now.bonded pad }
+    ensures { result ≡ pad_slot configured.now.parts (bits_of configured.now.configuration)
+        configured.now.bonded pad }
 {
     if !is_enabled(configured.chip(), configured.bits(), pad) {
         return PointSlot::Shared(0);
@@ -77,8 +79,9 @@ fn output_slot(
     tile: TileAt,
     cell: u8,
 ) -> PointSlot
-    ensures { result
-        ≡ role_slot configured.now.parts (bits_of configured.now.configuration) configured.now.configuration.extras configured.now.bonded slots.now next (Output tile cell) }
+    ensures { result ≡ role_slot configured.now.parts (bits_of configured.now.configuration)
+        configured.now.configuration.extras configured.now.bonded slots.now
+        next (Output tile cell) }
 {
     if has_flop(configured.chip(), configured.bits(), tile, cell) {
         return kept_slot(configured.cell_place(tile, cell));
@@ -88,8 +91,8 @@ fn output_slot(
 
 // The slot of the level of the wire of a pad, which is what the pad gives, or what a register kept of it.
 fn input_slot(configured: &ConfiguredChip<'_>, pad: Pad) -> PointSlot
-    ensures { result
-        ≡ role_slot configured.now.parts (bits_of configured.now.configuration) [] configured.now.bonded [] 0 (PadInput pad) }
+    ensures { result ≡ role_slot configured.now.parts (bits_of configured.now.configuration) []
+        configured.now.bonded [] 0 (PadInput pad) }
 {
     if has_input_register(configured.chip(), configured.bits(), pad) {
         return PointSlot::Own(configured.register_feed(pad, 0));
@@ -99,7 +102,8 @@ fn input_slot(configured: &ConfiguredChip<'_>, pad: Pad) -> PointSlot
 
 // The slot of the level of the pad that feeds a global.
 fn fed_slot(configured: &ConfiguredChip<'_>, pad: Option<Pad>) -> PointSlot
-    ensures { result ≡ fed_slot configured.now.parts (bits_of configured.now.configuration) configured.now.bonded pad }
+    ensures { result ≡ fed_slot configured.now.parts (bits_of configured.now.configuration)
+        configured.now.bonded pad }
 {
     match pad {
         None => PointSlot::Shared(0),
@@ -109,7 +113,8 @@ fn fed_slot(configured: &ConfiguredChip<'_>, pad: Option<Pad>) -> PointSlot
 
 // The slot of what feeds a global from a tile.
 fn fabout_slot(configured: &ConfiguredChip<'_>, slots: &[u32], global: u8) -> u32
-    ensures { result ≡ reading 0 (slot_in configured.now.parts slots.now) (global_feed configured.now.parts global) }
+    ensures { result ≡ reading 0 (slot_in configured.now.parts slots.now)
+        (global_feed configured.now.parts global) }
 {
     match configured.chip().global_of(global) {
         None => 0,
@@ -119,8 +124,8 @@ fn fabout_slot(configured: &ConfiguredChip<'_>, slots: &[u32], global: u8) -> u3
 
 // The slot of a global.
 fn global_slot(configured: &ConfiguredChip<'_>, slots: &[u32], global: u8) -> PointSlot
-    ensures { result
-        ≡ role_slot configured.now.parts (bits_of configured.now.configuration) configured.now.configuration.extras configured.now.bonded slots.now 0 (Global global) }
+    ensures { result ≡ role_slot configured.now.parts (bits_of configured.now.configuration)
+        configured.now.configuration.extras configured.now.bonded slots.now 0 (Global global) }
 {
     if configured.takes_pad(global) {
         return fed_slot(configured, configured.chip().gbufpin_of(global));
@@ -130,16 +135,17 @@ fn global_slot(configured: &ConfiguredChip<'_>, slots: &[u32], global: u8) -> Po
 
 // The slot of the carry into a tile where no row that is on leads there.
 fn carry_in_slot(configured: &ConfiguredChip<'_>, tile: TileAt) -> u32
-    ensures { result
-        ≡ (if set_at configured.now.parts (bits_of configured.now.configuration) tile (codes "CarryInSet") 0 then 1 else 0) }
+    ensures { result ≡ (if set_at configured.now.parts (bits_of configured.now.configuration) tile
+        (codes "CarryInSet") 0
+        then 1 else 0) }
 {
     u32::from(setting(configured.chip(), configured.bits(), tile, b"CarryInSet", 0))
 }
 
 // The slot of a wire without a row that is on.
 fn role_slot(configured: &ConfiguredChip<'_>, slots: &[u32], next: u32, role: Role) -> PointSlot
-    ensures { result
-        ≡ role_slot configured.now.parts (bits_of configured.now.configuration) configured.now.configuration.extras configured.now.bonded slots.now next role }
+    ensures { result ≡ role_slot configured.now.parts (bits_of configured.now.configuration)
+        configured.now.configuration.extras configured.now.bonded slots.now next role }
 {
     match role {
         Role::Plain => PointSlot::Shared(0),
@@ -158,8 +164,8 @@ fn role_slot(configured: &ConfiguredChip<'_>, slots: &[u32], next: u32, role: Ro
 // The slot of what a row of switches that is on gives.
 fn switch_slot(configured: &ConfiguredChip<'_>, slots: &[u32], switch: Switch) -> u32
     requires { switch.source.0 < configured.now.parts.wires }
-    ensures { result
-        ≡ (if passes configured.now.parts (bits_of configured.now.configuration) switch then slot_in configured.now.parts slots.now (Wire switch.source) else 0) }
+    ensures { result ≡ (if passes configured.now.parts (bits_of configured.now.configuration) switch
+        then slot_in configured.now.parts slots.now (Wire switch.source) else 0) }
 {
     if passes(configured.chip(), configured.bits(), &switch) {
         configured.slot_in(slots, Point::Wire(switch.source))
@@ -171,8 +177,10 @@ fn switch_slot(configured: &ConfiguredChip<'_>, slots: &[u32], switch: Switch) -
 // The slot of a wire of the chip.
 fn wire_slot(configured: &ConfiguredChip<'_>, slots: &[u32], next: u32, wire: WireNo) -> PointSlot
     requires { wire.0 < configured.now.parts.wires }
-    ensures { result
-        ≡ driven_slot configured.now.parts (bits_of configured.now.configuration) configured.now.configuration.extras configured.now.bonded slots.now next (role_of configured.now.parts wire.0) (driver configured.now.parts (bits_of configured.now.configuration) wire.0) }
+    ensures { result ≡ driven_slot configured.now.parts (bits_of configured.now.configuration)
+        configured.now.configuration.extras configured.now.bonded slots.now next
+        (role_of configured.now.parts wire.0)
+        (driver configured.now.parts (bits_of configured.now.configuration) wire.0) }
 {
     match configured.driver(wire) {
         Driver::Nothing => role_slot(configured, slots, next, role_of(configured.chip(), wire)),
@@ -189,8 +197,8 @@ pub(crate) fn point_slot(
     point: Point,
 ) -> PointSlot
     requires { HasWire configured.now.parts point }
-    ensures { result
-        ≡ point_slot configured.now.parts (bits_of configured.now.configuration) configured.now.configuration.extras configured.now.bonded slots.now next point }
+    ensures { result ≡ point_slot configured.now.parts (bits_of configured.now.configuration)
+        configured.now.configuration.extras configured.now.bonded slots.now next point }
 {
     match point {
         Point::Wire(wire) => wire_slot(configured, slots, next, wire),

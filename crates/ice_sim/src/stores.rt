@@ -32,7 +32,8 @@ pub(crate) fn small(number: usize) -> Result<u32, NoMemory>
 impl Stores {
     /// How many stores there are. It fails for want of memory alone; more than 2^32 cells, pads or stores count as that.
     pub(crate) fn count(&self) -> Result<u32, NoMemory>
-        ensures { IfOk result (λ count. count ≡ length self.now.cells.items + 2 * length self.now.pads.items) }
+        ensures { IfOk result (λ count.
+            count ≡ length self.now.cells.items + 2 * length self.now.pads.items) }
     {
         let cells = small(self.cells.len())?;
         let pads = small(self.pads.len())?;

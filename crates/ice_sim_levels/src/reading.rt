@@ -23,7 +23,8 @@ fn digit_level(digit: u8) -> Option<bool>
 // Adds the levels that the digits of a word write. Where one of them is no digit, some may have been added.
 #[tactic(auto, using(crate::proofs::Digits::digit_added, crate::proofs::Digits::digit_refused, crate::proofs::Digits::digits_end))]
 fn add_digits(levels: &mut Vec<bool>, word: &[u8]) -> Result<bool, NoMemory>
-    ensures { IfOk result (λ all. (if all then Some levels.new.items else None) ≡ levels_and levels.old.items (all_known (map digit_level word.now))) }
+    ensures { IfOk result (λ all. (if all then Some levels.new.items else None)
+        ≡ levels_and levels.old.items (all_known (map digit_level word.now))) }
 {
     for digit in word {
         let Some(level) = digit_level(*digit) else {
@@ -42,9 +43,11 @@ fn add_step(
     word: &[u8],
 ) -> Result<bool, NoMemory>
     requires { length levels.old.items ≡ count * ports }
-    ensures step { IfOk result (λ added. (if added then Some (steps_of ports (count + 1) levels.new.items) else None)
-        ≡ option_map (λ step. steps_of ports count levels.old.items ++ step ∷ []) (word_levels ports word.now)) }
-    ensures long { IfOk result (λ added. added ≡ true → length levels.new.items ≡ (count + 1) * ports) }
+    ensures step { IfOk result (λ added.
+        (if added then Some (steps_of ports (count + 1) levels.new.items) else None) ≡ option_map
+        (λ step. steps_of ports count levels.old.items ++ step ∷ []) (word_levels ports word.now)) }
+    ensures long { IfOk result (λ added.
+        added ≡ true → length levels.new.items ≡ (count + 1) * ports) }
     ensures few { IfOk result (λ added. added ≡ true → count ≤ length levels.old.items) }
 {
     if ports == 0 || word.len() != ports {
@@ -62,9 +65,12 @@ fn add_line(
     line: &Line<'_>,
 ) -> Result<usize, LevelFault>
     requires { length levels.old.items ≡ count * ports }
-    ensures steps { IfOk result (λ steps. then_steps (steps_of ports count levels.old.items) (line_steps ports (line_view line.now)) ≡ Ok (steps_of ports steps levels.new.items)) }
+    ensures steps { IfOk result (λ steps.
+        then_steps (steps_of ports count levels.old.items) (line_steps ports (line_view line.now))
+        ≡ Ok (steps_of ports steps levels.new.items)) }
     ensures long { IfOk result (λ steps. length levels.new.items ≡ steps * ports) }
-    ensures refused { IfErr result (λ fault. IsRefusal fault (line_steps ports (line_view line.now))) }
+    ensures refused { IfErr result (λ fault.
+        IsRefusal fault (line_steps ports (line_view line.now))) }
 {
     let mut words = plain_words_of(line.text);
     let Some(word) = words.next() else {

@@ -13,7 +13,7 @@ use Rattle.ice_net.specs.Meaning.{State, step, start, signal_value, kept_after}
 use Rattle.ice_sim_sweep.specs.declared.parts.Memory.{Memory}
 use Rattle.ice_sim_sweep.specs.declared.parts.Feed.{Feed}
 use Rattle.ice_sim_sweep.specs.declared.parts.Feed.TheVariants.{Nothing, Port as FromPort, Kept, Made}
-use Rattle.ice_sim_sweep.specs.declared.plan.Plan.{Plan}
+use Rattle.ice_sim_sweep.specs.declared.plan.SweepPlan.{SweepPlan}
 use Rattle.ice_sim_levels.specs.DriveTexts.{drives_line, drives_text}
 use Rattle.ice_sim_sweep.specs.Slots.{level_at}
 use Rattle.ice_sim_sweep.specs.Feeds.{feed_of, port_in, kept_in, linked, gate_in, tap_of}
@@ -25,7 +25,7 @@ use Rattle.ice_sim_sweep.proofs.Settling.{AreSettled, all_made, values_are}
 use Rattle.ice_sim_sweep.proofs.Showing.{all_drive}
 use Rattle.ice_sim_sweep.proofs.Remembering.{state_with, followed, all_follow, kept_is, clocks_are, memories_after, memories_blank, kept_blank, clocks_blank}
 
-module _ (n : NetlistData) (plan : Plan) (levels : List Bool) (memories : List Memory) (values : List Bool) (p : IsPlan n plan) (b : IsBetweenSteps n memories values) where
+module _ (n : NetlistData) (plan : SweepPlan) (levels : List Bool) (memories : List Memory) (values : List Bool) (p : IsPlan n plan) (b : IsBetweenSteps n memories values) where
   abbrev ports_of : ℕ → Option ℕ
   ports_of s = port_in (feed_of n s)
 
@@ -116,7 +116,7 @@ module _ (n : NetlistData) (plan : Plan) (levels : List Bool) (memories : List M
   }
 
 -- ---- what the code knows after a step
-module _ (n : NetlistData) (plan : Plan) (levels : List Bool) (memories next : List Memory) (values after : List Bool) (run : IsRun n plan memories values)
+module _ (n : NetlistData) (plan : SweepPlan) (levels : List Bool) (memories next : List Memory) (values after : List Bool) (run : IsRun n plan memories values)
     (after_is : after ≡ swept plan levels memories values) (next_is : next ≡ remembered plan.keepers.items after memories) where
   after_last : after ≡ third n plan levels memories values run.planned run.between
   after_last = after_is ∙ third_is n plan levels memories values run.planned run.between
@@ -150,7 +150,7 @@ last_one signals =
     let long : length (replicate (signals + 1) false) ≡ signals + 1 = length-replicate (signals + 1) false in
     subst (λ k. level_at (replicate (signals + 1) false ++ true ∷ []) k ≡ true) long (get_or-append_seam (replicate (signals + 1) false) true [] false)
 
-pub run_start : (n : NetlistData) (plan : Plan) → IsPlan n plan → IsRun n plan (replicate (length n.cells) blank) (replicate (length n.names + 1) false ++ true ∷ [])
+pub run_start : (n : NetlistData) (plan : SweepPlan) → IsPlan n plan → IsRun n plan (replicate (length n.cells) blank) (replicate (length n.names + 1) false ++ true ∷ [])
 run_start n plan p = record {
   planned = p;
   between = record {

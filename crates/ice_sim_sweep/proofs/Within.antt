@@ -20,7 +20,7 @@ use Rattle.ice_net.specs.Formed.{IsBelow, IsFormed, IsFormedCell, IsPortBelow}
 use Rattle.ice_net.specs.Drivers.{is_signal, place_of, pad_of, pad_signals, outputs, driver_from, driver_of, buffer_at}
 use Rattle.ice_net.specs.Drives.{output_type, enabled_type}
 use Rattle.ice_sim_sweep.specs.declared.parts.Gate.{Gate}
-use Rattle.ice_sim_sweep.specs.declared.plan.Plan.{Plan}
+use Rattle.ice_sim_sweep.specs.declared.plan.SweepPlan.{SweepPlan}
 use Rattle.ice_sim_sweep.specs.Slots.{slot_of, slot_at, gate_of, enable_slot, set_slot}
 use Rattle.ice_sim_sweep.specs.Feeds.{majority_table, first_table, pad_feed, pin_feed, kind_feed, cell_feed, driver_feed, feed_of, port_in, kept_in, linked, gate_in, no_tap, bare_tap, pad_tap, kind_tap, buffer_tap, tap_by, tap_of, keeper_at, keepers_of}
 use Rattle.ice_sim_sweep.specs.Plans.{IsPlan, IsLinkWithin, IsGateWithin, IsTapWithin, IsKeeperWithin, ArePartsWithin}
@@ -255,7 +255,7 @@ keepers_within signals count (cell ∷ cells) i e all =
     (keepers_within signals count cells (suc i) (omega arith) (tail_all (IsFormedCell signals) cell cells all))
 
 -- ---- the plan
-pub parts_within : (n : NetlistData) (plan : Plan) → IsPlan n plan → (ports cells slots : ℕ) → ports ≡ length n.ports → cells ≡ length n.cells → slots ≡ length n.names + 2
+pub parts_within : (n : NetlistData) (plan : SweepPlan) → IsPlan n plan → (ports cells slots : ℕ) → ports ≡ length n.ports → cells ≡ length n.cells → slots ≡ length n.names + 2
     → ArePartsWithin ports cells slots plan
 parts_within n plan p ports cells slots same_ports same_cells same_slots =
     let below : (j s : ℕ) → At p.order j s → s < length n.names + 2 = λ j s at. let lt = p.ordered.within j s at in omega arith in

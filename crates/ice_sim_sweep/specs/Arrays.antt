@@ -5,7 +5,7 @@ use Rattle.ice_sim_sweep.specs.declared.parts.Gate.{Gate}
 use Rattle.ice_sim_sweep.specs.declared.parts.Link.{Link}
 use Rattle.ice_sim_sweep.specs.declared.parts.Feed.{Feed}
 use Rattle.ice_sim_sweep.specs.declared.parts.Feed.TheVariants.{Nothing, Port as FromPort, Kept, Made}
-use Rattle.ice_sim_sweep.specs.declared.plan.Plan.{Plan}
+use Rattle.ice_sim_sweep.specs.declared.plan.SweepPlan.{SweepPlan}
 use Rattle.ice_sim_sweep.specs.Slots.{level_at}
 use Rattle.ice_sim_sweep.specs.Feeds.{port_in, kept_in, linked, gate_in}
 use Rattle.ice_sim_sweep.specs.Sweeps.{gate_level}
@@ -37,7 +37,7 @@ gates_from [] = []
 gates_from (feed ∷ feeds) = gate_in feed ++ gates_from feeds
 
 -- the sources and the tables of slots with these feeds
-pub record IsWired (feeds : List Feed) (plan : Plan) : Type 0 where
+pub record IsWired (feeds : List Feed) (plan : SweepPlan) : Type 0 where
   pub pads_are : plan.pads.items ≡ links_from port_in 0 feeds
   pub keeps_are : plan.keeps.items ≡ links_from kept_in 0 feeds
   pub gates_are : plan.gates.items ≡ gates_from feeds

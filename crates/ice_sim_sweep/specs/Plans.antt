@@ -14,7 +14,7 @@ use Rattle.ice_sim_sweep.specs.declared.parts.Tap.{Tap}
 use Rattle.ice_sim_sweep.specs.declared.parts.Keeper.{Keeper}
 use Rattle.ice_sim_sweep.specs.declared.parts.Memory.{Memory}
 use Rattle.ice_sim_sweep.specs.declared.parts.Feed.TheVariants.{Nothing}
-use Rattle.ice_sim_sweep.specs.declared.plan.Plan.{Plan}
+use Rattle.ice_sim_sweep.specs.declared.plan.SweepPlan.{SweepPlan}
 use Rattle.ice_sim_sweep.specs.Slots.{level_at}
 use Rattle.ice_sim_sweep.specs.Feeds.{feed_of, port_in, kept_in, linked, gate_in, tap_of, keepers_of}
 use Rattle.ice_sim_sweep.specs.Sweeps.{blank, kept_levels, copied, made}
@@ -27,7 +27,7 @@ pub record IsWiring (n : NetlistData) (order : List ℕ) (pads keeps : List Link
   pub gates_are : gates ≡ flat_map (λ s. gate_in (feed_of n s)) order
 
 -- a netlist, compiled
-pub record IsPlan (n : NetlistData) (plan : Plan) : Type 0 where
+pub record IsPlan (n : NetlistData) (plan : SweepPlan) : Type 0 where
   pub order : List ℕ
   pub formed : IsFormed n
   pub ordered : IsOrder (length n.names) (depends_on n) order
@@ -62,7 +62,7 @@ pub record IsKeeperWithin (cells slots : ℕ) (keeper : Keeper) : Type 0 where
   pub slots_within : AreSlotsWithin slots keeper
 
 -- the parts of a plan stay within so many ports, cells and slots
-pub record ArePartsWithin (ports cells slots : ℕ) (plan : Plan) : Type 0 where
+pub record ArePartsWithin (ports cells slots : ℕ) (plan : SweepPlan) : Type 0 where
   pub pads_within : All (IsLinkWithin ports slots) plan.pads.items
   pub keeps_within : All (IsLinkWithin cells slots) plan.keeps.items
   pub gates_within : All (IsGateWithin slots) plan.gates.items
@@ -99,11 +99,11 @@ pub record IsBetweenSteps (n : NetlistData) (memories : List Memory) (values : L
   pub unfed : (s : ℕ) → s < length n.names → feed_of n s ≡ Nothing → level_at values s ≡ false
 
 -- a netlist, compiled, between two steps
-pub record IsRun (n : NetlistData) (plan : Plan) (memories : List Memory) (values : List Bool) : Type 0 where
+pub record IsRun (n : NetlistData) (plan : SweepPlan) (memories : List Memory) (values : List Bool) : Type 0 where
   pub planned : IsPlan n plan
   pub between : IsBetweenSteps n memories values
 
 -- the array in a step: with the levels of pads and of flip-flops, and then with what tables make of them
-abbrev pub swept : Plan → List Bool → List Memory → List Bool → List Bool
+abbrev pub swept : SweepPlan → List Bool → List Memory → List Bool → List Bool
 swept plan levels memories values =
     made plan.gates.items (copied plan.keeps.items (kept_levels memories) (copied plan.pads.items levels values))

@@ -160,7 +160,8 @@ fn kind_tap(signals: u32, cell: &Cell) -> Tap
 
 /// What a port drives.
 pub(crate) fn tap(netlist: &Netlist, buffers: &[Option<usize>], port: &Port) -> Tap
-    requires buffers { ArePlaces (length netlist.now.names) (map pin_of netlist.now.cells) buffers.now }
+    requires buffers { ArePlaces (length netlist.now.names)
+        (map pin_of netlist.now.cells) buffers.now }
     requires port { port.now.signal.0 < length netlist.now.names }
     ensures { result ≡ tap_of netlist.now port.now }
 {
@@ -205,7 +206,8 @@ pub(crate) fn add_keeper(
     cell: &Cell,
 ) -> Result<(), NoMemory>
     requires { signals < 2 ^ 30 }
-    ensures { OnOk result (keepers.new.items ≡ keepers.old.items ++ keeper_at signals i cell.now.kind cell.now.ins) }
+    ensures { OnOk result
+        (keepers.new.items ≡ keepers.old.items ++ keeper_at signals i cell.now.kind cell.now.ins) }
 {
     let CellKind::Flop {
         falling,

@@ -12,7 +12,7 @@ mod wiring;
 
 pub use ice_net::Drive;
 pub use parts::{Feed, Gate, Keeper, Link, Memory, Tap};
-pub use plan::Plan;
+pub use plan::SweepPlan;
 pub use playing::play;
 pub use run::{NetRun, blanks};
 pub use sweeping::sweep;

@@ -15,7 +15,7 @@ use std::alloc::Global;
 
 /// What a netlist is compiled to.
 #[derive(Drop)]
-pub struct Plan {
+pub struct SweepPlan {
     /// The signals that have the levels of ports.
     pub pads: Vec<Link>,
     /// The signals that have what flip-flops keep.
@@ -37,7 +37,8 @@ pub(crate) fn add(
     feed: Feed,
 ) -> Result<(), NoMemory>
     ensures pads { OnOk result (pads.new.items ≡ pads.old.items ++ linked signal (port_in feed)) }
-    ensures keeps { OnOk result (keeps.new.items ≡ keeps.old.items ++ linked signal (kept_in feed)) }
+    ensures keeps { OnOk result
+        (keeps.new.items ≡ keeps.old.items ++ linked signal (kept_in feed)) }
     ensures gates { OnOk result (gates.new.items ≡ gates.old.items ++ gate_in feed) }
 {
     match feed {
@@ -66,7 +67,8 @@ fn wire(
     requires drivers { AreDrivers netlist.now drivers.now }
     requires order { IsOrder (length netlist.now.names) (depends_on netlist.now) order.now }
     requires empty { IsWiring netlist.now [] pads.old.items keeps.old.items gates.old.items }
-    ensures { OnOk result (IsWiring netlist.now order.now pads.new.items keeps.new.items gates.new.items) }
+    ensures { OnOk result
+        (IsWiring netlist.now order.now pads.new.items keeps.new.items gates.new.items) }
 {
     for signal in order {
         let feed = feed(netlist, drivers, *signal);
@@ -95,7 +97,8 @@ fn wiring_of(
 ) -> Result<Wiring, NoMemory>
     requires drivers { AreDrivers netlist.now drivers.now }
     requires order { IsOrder (length netlist.now.names) (depends_on netlist.now) order.now }
-    ensures { IfOk result (λ wiring. IsWiring netlist.now order.now wiring.pads.items wiring.keeps.items wiring.gates.items) }
+    ensures { IfOk result (λ wiring.
+        IsWiring netlist.now order.now wiring.pads.items wiring.keeps.items wiring.gates.items) }
 {
     let mut pads = Vec::new(alloc);
     let mut keeps = Vec::new(alloc);
@@ -137,16 +140,17 @@ pub(crate) fn compile(
     drivers: &[SignalDriver],
     buffers: &[Option<usize>],
     order: &[usize],
-) -> Result<Plan, NoMemory>
+) -> Result<SweepPlan, NoMemory>
     requires drivers { AreDrivers netlist.now drivers.now }
-    requires buffers { ArePlaces (length netlist.now.names) (map pin_of netlist.now.cells) buffers.now }
+    requires buffers { ArePlaces (length netlist.now.names)
+        (map pin_of netlist.now.cells) buffers.now }
     requires order { IsOrder (length netlist.now.names) (depends_on netlist.now) order.now }
     ensures { IfOk result (IsPlan netlist.now) }
 {
     let wiring = wiring_of(alloc, netlist, drivers, order)?;
     let taps = taps(alloc, netlist, buffers)?;
     let keepers = keepers(alloc, netlist.signals(), netlist.cells())?;
-    Ok(Plan {
+    Ok(SweepPlan {
         pads: wiring.pads,
         keeps: wiring.keeps,
         gates: wiring.gates,

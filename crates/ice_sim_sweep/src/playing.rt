@@ -21,7 +21,8 @@ fn play_step(
     requires levels { length levels.now ≡ length run.old.0.ports }
     requires drives { length drives.old ≡ length run.old.0.ports }
     ensures run { run.new ≡ (run.old.0, (step run.old.0 run.old.1 levels.now).0) }
-    ensures text { OnOk result (text.new.items ≡ text.old.items ++ drives_line (step run.old.0 run.old.1 levels.now).1) }
+    ensures text { OnOk result
+        (text.new.items ≡ text.old.items ++ drives_line (step run.old.0 run.old.1 levels.now).1) }
 {
     run.step(levels, drives);
     put_drives(text, drives)

@@ -4,7 +4,7 @@ ghost use Rattle.ice_net.specs.Meaning.{start, step};
 ghost use Rattle.ice_sim_sweep.specs.Sweeps.{blank};
 
 use crate::parts::Memory;
-use crate::plan::{Plan, compile};
+use crate::plan::{SweepPlan, compile};
 use crate::sweeping::sweep;
 use ice_base::NoMemory;
 use ice_check::Sound;
@@ -16,7 +16,7 @@ use std::marker::Model;
 #[derive(Drop)]
 pub struct NetRun<'a> {
     sound: &'a Sound,
-    plan: Plan,
+    plan: SweepPlan,
     // What each cell keeps.
     memories: Vec<Memory>,
     // The level of each signal in the last step, then 0 and 1.

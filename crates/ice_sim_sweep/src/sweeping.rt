@@ -6,7 +6,7 @@ ghost use Rattle.ice_sim_sweep.specs.Plans.{IsLinkWithin, IsGateWithin, IsTapWit
 
 use crate::flops::{fired, is_edge};
 use crate::parts::{Gate, Keeper, Link, Memory, Tap};
-use crate::plan::Plan;
+use crate::plan::SweepPlan;
 use ice_net::Drive;
 
 // Gives signals the levels of ports.
@@ -116,13 +116,14 @@ fn remember(keepers: &[Keeper], values: &[bool], memories: &mut [Memory])
 /// One step: all levels are taken with what flip-flops kept before it. `levels` has the levels of the ports, and `out` becomes what
 /// they drive. It takes no memory.
 pub fn sweep(
-    plan: &Plan,
+    plan: &SweepPlan,
     levels: &[bool],
     memories: &mut [Memory],
     values: &mut [bool],
     out: &mut [Drive],
 )
-    requires within { ArePartsWithin (length levels.now) (length memories.old) (length values.old) plan.now }
+    requires within { ArePartsWithin (length levels.now) (length memories.old)
+        (length values.old) plan.now }
     requires out { length out.old ≡ length plan.now.taps.items }
     ensures values { values.new ≡ swept plan.now levels.now memories.old values.old }
     ensures out { out.new ≡ map (tap_drive values.new) plan.now.taps.items }

@@ -3,7 +3,7 @@ ghost use Rattle.std.specs.Prelude.{◌≡◌, ◌++◌, [], IfOk, OnOk};
 ghost use Rattle.ice_sim_sweep.specs.Arrays.{IsWired};
 
 use crate::parts::{Feed, Keeper, Tap};
-use crate::plan::{Plan, add};
+use crate::plan::{SweepPlan, add};
 use ice_base::NoMemory;
 use std::alloc::Global;
 
@@ -13,7 +13,7 @@ pub fn wired(
     feeds: &[Feed],
     taps: Vec<Tap>,
     keepers: Vec<Keeper>,
-) -> Result<Plan, NoMemory>
+) -> Result<SweepPlan, NoMemory>
     ensures wired { IfOk result (IsWired feeds.now) }
     ensures taps { IfOk result (λ plan. plan.taps.items ≡ taps.items) }
     ensures keepers { IfOk result (λ plan. plan.keepers.items ≡ keepers.items) }
@@ -24,7 +24,7 @@ pub fn wired(
     for (slot, feed) in feeds.iter().enumerate() {
         add(&mut pads, &mut keeps, &mut gates, slot, *feed)?;
     }
-    Ok(Plan {
+    Ok(SweepPlan {
         pads,
         keeps,
         gates,

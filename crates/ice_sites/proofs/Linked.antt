@@ -4,7 +4,7 @@ use Rattle.ice_base.specs.declared.number.TileAt.{TileAt}
 use Rattle.ice_chip.specs.Database.{Parts}
 use Rattle.ice_sites.specs.Site.{is_site, is_link}
 use Rattle.ice_sites.specs.Stretches.{goes_on, cut, columns, sites_in_order, stretches_of}
-use Rattle.ice_sites.specs.Legal.{Stands, IsAmong, Follows, IsLegal, IsLegalOn, tile_at}
+use Rattle.ice_sites.specs.Legal.{IsInStretch, IsAmong, Follows, IsLegal, IsLegalOn, tile_at}
 
 -- ---- a fact of each site
 abbrev Each : (TileAt → Bool) → List TileAt → Type 0
@@ -41,7 +41,7 @@ each_at test [] j t each at = absurd (cc)
 each_at test (s ∷ sites) zero t each at = let same : s ≡ t = cc at in subst (λ x. test x ≡ true) same each.0
 each_at test (s ∷ sites) (suc j) t each at = each_at test sites j t each.1 at
 
-stretch_each : (test : TileAt → Bool) (stretches : List (List TileAt)) (i j : ℕ) (t : TileAt) → EachOf test stretches → Stands stretches i j t → test t ≡ true
+stretch_each : (test : TileAt → Bool) (stretches : List (List TileAt)) (i j : ℕ) (t : TileAt) → EachOf test stretches → IsInStretch stretches i j t → test t ≡ true
 stretch_each test [] i j t each at = absurd (cc)
 stretch_each test (s ∷ stretches) zero j t each at = each_at test s j t each.0 at
 stretch_each test (s ∷ stretches) (suc i) j t each at = stretch_each test stretches i j t each.1 at
@@ -83,7 +83,7 @@ chain_at link (t ∷ u ∷ sites) zero low high chain at at' =
     subst (λ x. link x high ≡ true) same (subst (λ x. link t x ≡ true) same' chain.0)
 chain_at link (t ∷ u ∷ sites) (suc j) low high chain at at' = chain_at link (u ∷ sites) j low high chain.1 at at'
 
-stretch_chain : (link : TileAt → TileAt → Bool) (stretches : List (List TileAt)) (i j : ℕ) (low high : TileAt) → Chains link stretches → Stands stretches i j low → Stands stretches i (suc j) high → link low high ≡ true
+stretch_chain : (link : TileAt → TileAt → Bool) (stretches : List (List TileAt)) (i j : ℕ) (low high : TileAt) → Chains link stretches → IsInStretch stretches i j low → IsInStretch stretches i (suc j) high → link low high ≡ true
 stretch_chain link [] i j low high chains at at' = absurd (cc)
 stretch_chain link (s ∷ stretches) zero j low high chains at at' = chain_at link s j low high chains.0 at at'
 stretch_chain link (s ∷ stretches) (suc i) j low high chains at at' = stretch_chain link stretches i j low high chains.1 at at'
@@ -97,7 +97,7 @@ follows_is_link : (parts : Parts) (low high : TileAt) → Follows (stretches_of 
 follows_is_link parts low high follows =
     let one : follows.1.0 + 1 ≡ suc follows.1.0 = omega arith in
     stretch_chain (is_link parts) (stretches_of parts) follows.0 follows.1.0 low high (all_chains (is_link parts) (sites_in_order parts)) follows.1.1.0
-    (subst (λ j. Stands (stretches_of parts) follows.0 j high) one follows.1.1.1)
+    (subst (λ j. IsInStretch (stretches_of parts) follows.0 j high) one follows.1.1.1)
 
 pub legal_on : (parts : Parts) (chunks : List (Option (ℕ × ℕ))) (at : List TileAt) → IsLegal (stretches_of parts) chunks at → IsLegalOn parts chunks at
 legal_on parts chunks at legal = record {

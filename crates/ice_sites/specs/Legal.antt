@@ -7,16 +7,16 @@ use Rattle.ice_sites.specs.Site.{is_site, is_link}
 
 -- ---- stretches
 -- the tile stands at place j of stretch i
-abbrev pub Stands : List (List TileAt) → ℕ → ℕ → TileAt → Type 0
-Stands stretches i j t = slice_get (slice_index_or stretches i []) j ≡ Some t
+abbrev pub IsInStretch : List (List TileAt) → ℕ → ℕ → TileAt → Type 0
+IsInStretch stretches i j t = slice_get (slice_index_or stretches i []) j ≡ Some t
 
 -- the tile is one of the sites
 abbrev pub IsAmong : List (List TileAt) → TileAt → Type 0
-IsAmong stretches t = (i : ℕ) × ((j : ℕ) × Stands stretches i j t)
+IsAmong stretches t = (i : ℕ) × ((j : ℕ) × IsInStretch stretches i j t)
 
 -- the second tile stands directly behind the first one in a stretch
 abbrev pub Follows : List (List TileAt) → TileAt → TileAt → Type 0
-Follows stretches low high = (i : ℕ) × ((j : ℕ) × (Stands stretches i j low × Stands stretches i (j + 1) high))
+Follows stretches low high = (i : ℕ) × ((j : ℕ) × (IsInStretch stretches i j low × IsInStretch stretches i (j + 1) high))
 
 -- ---- clusters
 -- the second is the chunk behind the first one of the same run

@@ -3,7 +3,8 @@ use Rattle.std.specs.Prelude.{ℕ, zero, suc, ◌+◌, ◌==◌, Bool, true, fal
 use Rattle.ice_base.specs.declared.number.TileAt.{TileAt}
 use Rattle.ice_chip.specs.Database.{Parts}
 use Rattle.ice_chip.specs.Lookups.{kind_at, wire_named}
-use Rattle.ice_chip.specs.Names.{input_name, output_name, carry_out_name, clock_name, clock_enable_name, set_reset_name, carry_in_name, first_carry_name}
+use Rattle.ice_chip.specs.Names.{input_name}
+use Rattle.ice_chip.specs.WireNames.{output_name, carry_out_name, clock_name, clock_enable_name, set_reset_name, carry_in_name, first_carry_name}
 use Rattle.ice_chip.specs.declared.rows.TileKind.{TileKind}
 use Rattle.ice_chip.specs.declared.rows.TileKind.TheVariants.{Io, Logic, RamBottom, RamTop}
 use Rattle.ice_bits_rows.specs.FirstSound.{first_sound}

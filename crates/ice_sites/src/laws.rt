@@ -8,5 +8,6 @@ ghost use Rattle.ice_sites.specs.Stretches.{stretches_of};
 /// In a placement that is legal on the stretches of a chip, each cluster stands on a site of the chip, no two on one, and
 /// the chunks of a run stand upwards on linked sites.
 pub fn clusters_stand_on_sites()
-    ensures { (parts : Parts) → (chunks : List (Option (ℕ × ℕ))) → (at : List TileAt) → IsLegal (stretches_of parts) chunks at → IsLegalOn parts chunks at }
+    ensures { (parts : Parts) → (chunks : List (Option (ℕ × ℕ))) → (at : List TileAt)
+        → IsLegal (stretches_of parts) chunks at → IsLegalOn parts chunks at }
 {}

@@ -10,7 +10,8 @@ use std::alloc::Global;
 
 // Adds the sites of a column, from below.
 fn add_column(index: &Index, x: u16, sites: &mut Vec<TileAt>) -> Result<(), NoMemory>
-    ensures { OnOk result (sites.new.items ≡ sites.old.items ++ filter (is_site index.now.chip.now) (column x 256)) }
+    ensures { OnOk result
+        (sites.new.items ≡ sites.old.items ++ filter (is_site index.now.chip.now) (column x 256)) }
 {
     for y in 0..256 {
         let tile = TileAt { x, y };

@@ -1,7 +1,8 @@
 //! Whether a tile is a site, and whether two sites are linked.
 ghost use Rattle.std.specs.Prelude.{◌≡◌, ◌<◌, option_map};
 ghost use Rattle.ice_chip.specs.Lookups.{wire_named};
-ghost use Rattle.ice_chip.specs.Names.{input_name, output_name, carry_out_name, first_carry_name};
+ghost use Rattle.ice_chip.specs.Names.{input_name};
+ghost use Rattle.ice_chip.specs.WireNames.{output_name, carry_out_name, first_carry_name};
 ghost use Rattle.ice_sites.specs.Site.{has_wire, leads, is_same_wire, is_logic, all_below, has_cell, has_chain, has_controls, has_entry, is_site, is_above, is_link};
 
 use ice_base::{TileAt, WireNo};
@@ -20,7 +21,8 @@ fn has_wire(chip: &Chip, tile: TileAt, name: &[u8]) -> bool
 
 // Whether both wires are there, and a sound row leads from the one to the other.
 fn leads(index: &Index, source: Option<WireNo>, target: Option<WireNo>) -> bool
-    ensures { result ≡ leads index.now.chip.now (option_map (λ w. w.0) source) (option_map (λ w. w.0) target) }
+    ensures { result
+        ≡ leads index.now.chip.now (option_map (λ w. w.0) source) (option_map (λ w. w.0) target) }
 {
     match (source, target) {
         (Some(source), Some(target)) => first_sound(index, source, target).is_some(),

@@ -12,7 +12,8 @@ use std::alloc::Global;
 // Whether the next site is linked to this one.
 fn goes_on(index: &Index, sites: &[TileAt], k: usize) -> bool
     requires place { k < length sites.now }
-    ensures { result ≡ goes_on (is_link index.now.chip.now) (slice_index_or sites.now k (record { x = 0; y = 0 })) (drop (k + 1) sites.now) }
+    ensures { result ≡ goes_on (is_link index.now.chip.now)
+        (slice_index_or sites.now k (record { x = 0; y = 0 })) (drop (k + 1) sites.now) }
 {
     match sites.get(k + 1) {
         None => false,
@@ -26,7 +27,8 @@ pub fn stretches_in(
     index: &Index,
     sites: &[TileAt],
 ) -> Result<Vec<Stretch>, NoMemory>
-    ensures { IfOk result (λ stretches. stretches.items ≡ cut (is_link index.now.chip.now) [] sites.now) }
+    ensures { IfOk result (λ stretches.
+        stretches.items ≡ cut (is_link index.now.chip.now) [] sites.now) }
 {
     let mut stretches = Vec::new(alloc);
     let mut open = Vec::new(alloc);

@@ -160,7 +160,10 @@ impl Points for Nands {
 
     ghost points = { λ n. length n.graph };
 
-    ghost system = { λ n. record { depends = depends_of n.graph; local = λ p levels. not (list_all (λ (level : Bool). level) levels) } };
+    ghost system = { λ n. record {
+      depends = depends_of n.graph;
+      local = λ p levels. not (list_all (λ (level : Bool). level) levels);
+    } };
 
     ghost is_ready = { λ n. IsWithin n.graph };
 

@@ -4,7 +4,7 @@ ghost use Rattle.ice_negotiate_defs.specs.Rounds.{AreNets};
 
 use crate::claims::expect_that;
 use ice_claim_opening::opening;
-use ice_core::{Net, RoundLog};
+use ice_core::{MOST_NETS, MOST_WIRES, Net, RoundLog};
 use ice_desk::OpenGate;
 use ice_graph::{Graph, Tree};
 use ice_negotiate::{negotiate, negotiate_from};
@@ -32,8 +32,8 @@ pub fn opened(
 ) -> Result<Routed, RouteFault>
     requires rounds { (1 ≤ rounds) × (rounds ≤ 64) }
     requires workers { (1 ≤ workers) × (workers ≤ 8) }
-    requires wires { graph.now.wires ≤ 1048576 }
-    requires few { length nets.now ≤ 65536 }
+    requires wires { graph.now.wires ≤ MOST_WIRES }
+    requires few { length nets.now ≤ MOST_NETS }
     requires nets { AreNets graph.now nets.now }
 {
     let kept = opening(rt, alloc, graph, nets, workers, &OpenGate)?;

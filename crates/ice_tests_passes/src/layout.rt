@@ -59,7 +59,8 @@ fn first_placement(
     design: &Design,
 ) -> Result<Placement, PlaceFault>
     requires { IsClustering design.now clusters.now }
-    ensures { IfOk result (λ placement. IsLegal (stretches_of chip.now) (chunks_of clusters.now.list) placement) }
+    ensures { IfOk result (λ placement.
+        IsLegal (stretches_of chip.now) (chunks_of clusters.now.list) placement) }
 {
     let sites = sites_of(alloc, chip)?;
     let placement = first_place(alloc, &sites, clusters, design)?;
@@ -71,9 +72,11 @@ fn place(alloc: Global, chip: &Chip, packed: Packed, pads: Pads) -> Result<Layou
     requires clusters { packed.clusters ≡ clusters_of packed.design }
     requires clustering { IsClustering packed.design packed.clusters }
     ensures design { IfOk result (λ layout. layout.design ≡ packed.design) }
-    ensures clusters { IfOk result (λ layout. layout.clusters ≡ clusters_by layout.ranks packed.design) }
+    ensures clusters { IfOk result (λ layout.
+        layout.clusters ≡ clusters_by layout.ranks packed.design) }
     ensures pads { IfOk result (λ layout. layout.pads ≡ pads) }
-    ensures legal { IfOk result (λ layout. IsLegal (stretches_of chip.now) (chunks_of layout.clusters.list) layout.placement) }
+    ensures legal { IfOk result (λ layout.
+        IsLegal (stretches_of chip.now) (chunks_of layout.clusters.list) layout.placement) }
 {
     let Packed { design, clusters } = packed;
     let placement = first_placement(alloc, chip, &clusters, &design)?;

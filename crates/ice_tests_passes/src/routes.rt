@@ -12,7 +12,7 @@ use ice_asc::write_asc;
 use ice_base::{NoMemory, to_u32};
 use ice_bits_rows::Index;
 use ice_chip::Chip;
-use ice_core::{Net, RoundLog};
+use ice_core::{MOST_NETS, Net, RoundLog};
 use ice_desk::OpenGate;
 use ice_emit::emit;
 use ice_flow_build::{Effort, Layout, nets_in, route};
@@ -107,7 +107,7 @@ fn show_routes<R: Threads + Sync>(
 ) -> Result<(), NoMemory>
     requires placed { IsPlacedOn index.now.chip.now (plan_in layout.now) layout.now.pads.pullups }
     requires nets { AreNetsOf index.now.chip.now (plan_in layout.now) nets.now }
-    requires few { length nets.now ≤ 65536 }
+    requires few { length nets.now ≤ MOST_NETS }
 {
     let effort = Effort {
         seed: 1,

@@ -37,7 +37,8 @@ fn expect_held(rt: &impl Abort, words: &Words, hand: &mut Hand, count: u32)
     requires olds { hand.old.view.olds ≡ [] ∷ [] ∷ [] }
     requires counts { length hand.old.view.counts ≡ 3 }
     ensures of { IsHandOf words.now hand.new }
-    ensures standing { (hand.new.view.main ≡ hand.old.view.main) × (hand.new.view.worker ≡ hand.old.view.worker) × (hand.new.view.out ≡ hand.old.view.out) }
+    ensures standing { (hand.new.view.main ≡ hand.old.view.main)
+        × (hand.new.view.worker ≡ hand.old.view.worker) × (hand.new.view.out ≡ hand.old.view.out) }
     ensures posted { (hand.new.view.up ≡ 0) × (hand.new.view.down ≡ 0) }
 {
     let Some(task) = words.claim(hand) else {

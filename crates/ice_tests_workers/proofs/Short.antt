@@ -10,8 +10,7 @@ use Rattle.ice_core.specs.declared.round_prices.RoundPrices.{RoundPrices}
 use Rattle.ice_core.specs.declared.task.Task.{Task}
 use Rattle.ice_core.specs.Routes.{IsOpening, numbers, old_wires, sum_below, times, wires_of}
 use Rattle.ice_core.proofs.Sums.{at_other, times_cons}
-use Rattle.ice_worker.specs.Tasks.{IsTaskOf, KeepsBounds}
-use Rattle.ice_tests_workers.specs.Hands.{AreReady}
+use Rattle.ice_worker.specs.Tasks.{IsTaskOf, KeepsBounds, ArePlayable}
 
 low_at : (n : ℕ) (xs : List ℕ) → AllByRecursion (λ x. x ≤ n) xs → (w : ℕ) → slice_index xs w ≤ n
 low_at n [] each w = omega arith
@@ -96,7 +95,7 @@ second_opening third le = record {
     counted (suc (suc (suc (suc (suc (suc w)))))) lt = omega (arith, beyond w)
 
 pub first_ready : (graph : Network) (r : RoundPrices) (t u : Task) → graph.wires ≡ 7 → r.round ≡ 1 → r.history.items ≡ 0 ∷ 0 ∷ 0 ∷ 0 ∷ 0 ∷ 0 ∷ 0 ∷ [] → r.counts.items ≡ 0 ∷ 0 ∷ 0 ∷ 0 ∷ 0 ∷ 0 ∷ 0 ∷ []
-    → IsTaskOf graph t → IsTaskOf graph u → t.old.items ≡ [] → u.old.items ≡ [] → AreReady graph r (t ∷ u ∷ [])
+    → IsTaskOf graph t → IsTaskOf graph u → t.old.items ≡ [] → u.old.items ≡ [] → ArePlayable graph r (t ∷ u ∷ [])
 first_ready graph r t u wires round history counts t_of u_of t_old u_old =
     let none : AllByRecursion (λ x. x ≤ 0) (0 ∷ 0 ∷ 0 ∷ 0 ∷ 0 ∷ 0 ∷ 0 ∷ []) = (omega arith, (omega arith, (omega arith, (omega arith, (omega arith, (omega arith, (omega arith, tt))))))) in
     let past : (w : ℕ) → slice_index r.history.items w ≤ 1 = λ w. omega (arith, ap (λ xs. slice_index xs w) history, low_at 0 (0 ∷ 0 ∷ 0 ∷ 0 ∷ 0 ∷ 0 ∷ 0 ∷ []) none w) in
@@ -117,7 +116,7 @@ abbrev pub wire : ℕ → WireNo
 wire n = record { 0 = n }
 
 pub second_ready : (graph : Network) (third : ℕ) (r : RoundPrices) (t : Task) → third ≤ 2 → graph.wires ≡ 7 → r.round ≡ 2 → r.history.items ≡ 0 ∷ 0 ∷ 1 ∷ 0 ∷ 0 ∷ 0 ∷ 0 ∷ [] → r.counts.items ≡ 1 ∷ 1 ∷ 2 ∷ third ∷ 0 ∷ 1 ∷ 1 ∷ []
-    → IsTaskOf graph t → t.old.items ≡ wire 0 ∷ wire 2 ∷ wire 5 ∷ [] → AreReady graph r (t ∷ [])
+    → IsTaskOf graph t → t.old.items ≡ wire 0 ∷ wire 2 ∷ wire 5 ∷ [] → ArePlayable graph r (t ∷ [])
 second_ready graph third r t le wires round history counts t_of t_old =
     let past : (w : ℕ) → slice_index r.history.items w ≤ 1 = λ w. omega (arith, ap (λ xs. slice_index xs w) history, low_at 1 (0 ∷ 0 ∷ 1 ∷ 0 ∷ 0 ∷ 0 ∷ 0 ∷ []) (omega arith, (omega arith, (omega arith, (omega arith, (omega arith, (omega arith, (omega arith, tt))))))) w) in
     let low : (w : ℕ) → slice_index r.counts.items w ≤ 2 = λ w. omega (arith, ap (λ xs. slice_index xs w) counts, low_at 2 (1 ∷ 1 ∷ 2 ∷ third ∷ 0 ∷ 1 ∷ 1 ∷ []) (omega arith, (omega arith, (omega arith, (le, (omega arith, (omega arith, (omega arith, tt))))))) w) in

@@ -1,7 +1,9 @@
 //! Two rounds of two nets by hand: on the words of each round two hands, each in a thread.
 ghost use Rattle.std.specs.Prelude.{◌≡◌};
 ghost use Rattle.ice_words.specs.Grips.{IsHandOf};
-ghost use Rattle.ice_tests_workers.specs.Hands.{AreReady, AreStarted, IsFreshOf, HasWorked};
+ghost use Rattle.ice_worker.specs.Tasks.{ArePlayable};
+ghost use Rattle.ice_negotiate_round.specs.Jobs.{AreStarted};
+ghost use Rattle.ice_tests_workers.specs.Hands.{IsFreshOf, HasWorked};
 
 use crate::tasks::{first_round, second_round};
 use ice_base::RowNo;
@@ -91,7 +93,7 @@ fn counts_behind<G: Gate + Sync, R: Abort + Threads + Sync>(
     tasks: &[Task],
     gate: &G,
 ) -> Counts
-    requires { AreReady graph.now prices.now tasks.now }
+    requires { ArePlayable graph.now prices.now tasks.now }
 {
     let started = Words::start(alloc, graph.wires(), tasks, &prices.counts);
     let (words, mut hand) = started.expect(rt, "memory");
@@ -156,7 +158,7 @@ fn expect_tree(rt: &impl Abort, made: Option<&(u32, Tree)>, number: u32, rows: &
 
 // The trees that one worker makes of both tasks.
 fn expect_trees(rt: &impl Abort, alloc: Global, graph: &Graph, prices: &RoundPrices, tasks: &[Task])
-    requires { AreReady graph.now prices.now tasks.now }
+    requires { ArePlayable graph.now prices.now tasks.now }
 {
     let started = Words::start(alloc, graph.wires(), tasks, &prices.counts);
     let (words, mut hand) = started.expect(rt, "memory");

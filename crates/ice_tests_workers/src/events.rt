@@ -1,7 +1,7 @@
 //! The two rounds as events of the core: which it may do, and what they leave of the counts.
 ghost use Rattle.std.specs.Prelude.{◌≡◌, length};
 ghost use Rattle.ice_core.specs.Routes.{old_wires, tree_wires, IsOpening};
-ghost use Rattle.ice_tests_workers.specs.Hands.{AreReady};
+ghost use Rattle.ice_worker.specs.Tasks.{ArePlayable};
 ghost use Rattle.ice_tests_workers.specs.Routes.{AreRoutes};
 
 use crate::tasks::{first_round, second_round};
@@ -151,7 +151,7 @@ fn expect_counts(rt: &impl Abort, core: &Core, wanted: [u64; 7])
 // What the first round leaves.
 fn expect_first(rt: &impl Abort, alloc: Global, graph: &Graph, prices: &RoundPrices, tasks: &[Task])
     requires wires { graph.now.wires ≡ 7 }
-    requires ready { AreReady graph.now prices.now tasks.now }
+    requires ready { ArePlayable graph.now prices.now tasks.now }
 {
     let _wires = graph.wires();
     let trees = short_ways(rt, alloc);
@@ -173,7 +173,7 @@ fn expect_second(
     tasks: &[Task],
 )
     requires wires { graph.now.wires ≡ 7 }
-    requires ready { AreReady graph.now prices.now tasks.now }
+    requires ready { ArePlayable graph.now prices.now tasks.now }
 {
     let _wires = graph.wires();
     let trees = long_way(rt, alloc);

@@ -1,7 +1,6 @@
 //! The two rounds of two nets over one short wire: from the wires 0 and 1 to 5 and 6, over wire 2, or over 3 and 4.
 ghost use Rattle.std.specs.Prelude.{◌≡◌, ◌<◌, ◌≤◌, ◌∷◌, [], map};
-ghost use Rattle.ice_worker.specs.Tasks.{IsTaskOf};
-ghost use Rattle.ice_tests_workers.specs.Hands.{AreReady};
+ghost use Rattle.ice_worker.specs.Tasks.{IsTaskOf, ArePlayable};
 
 use ice_base::{NetNo, WireNo};
 use ice_core::{RoundPrices, Task};
@@ -64,7 +63,7 @@ pub struct Play {
 #[tactic(auto, using(crate::proofs::Short::first_ready))]
 pub fn first_round(rt: &impl Abort, alloc: Global, graph: &Graph) -> Play
     requires { graph.now.wires ≡ 7 }
-    ensures { AreReady graph.now result.prices result.tasks.items }
+    ensures { ArePlayable graph.now result.prices result.tasks.items }
 {
     let prices = prices_of(rt, alloc, 1, &[0, 0, 0, 0, 0, 0, 0], &[0, 0, 0, 0, 0, 0, 0]);
     let one = task_to(rt, alloc, graph, 0, b"5", &[]);
@@ -77,7 +76,7 @@ pub fn first_round(rt: &impl Abort, alloc: Global, graph: &Graph) -> Play
 pub fn second_round(rt: &impl Abort, alloc: Global, graph: &Graph, third: u32) -> Play
     requires wires { graph.now.wires ≡ 7 }
     requires third { third ≤ 2 }
-    ensures { AreReady graph.now result.prices result.tasks.items }
+    ensures { ArePlayable graph.now result.prices result.tasks.items }
 {
     let counts = [1, 1, 2, third, 0, 1, 1];
     let prices = prices_of(rt, alloc, 2, &[0, 0, 1, 0, 0, 0, 0], &counts);

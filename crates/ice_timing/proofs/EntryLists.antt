@@ -7,7 +7,8 @@ use Rattle.ice_base.specs.declared.number.TileAt.{TileAt}
 use Rattle.ice_base_values.specs.System.{present}
 use Rattle.ice_base_values.proofs.Gaps.{present_more}
 use Rattle.ice_chip.specs.Database.{Parts}
-use Rattle.ice_chip.specs.Lookups.{tile_of, is_io_kind}
+use Rattle.ice_chip.specs.Lookups.{is_io_kind}
+use Rattle.ice_chip.specs.Listings.{tile_of}
 use Rattle.ice_chip.specs.declared.rows.TileLine.{TileLine}
 use Rattle.ice_chip.specs.declared.rows.Pad.{Pad}
 use Rattle.ice_chip.specs.declared.tile.Tile.{Tile}

@@ -9,7 +9,7 @@ use Rattle.ice_base_values.proofs.Members.{At_within}
 use Rattle.ice_chip.specs.Database.{Parts}
 use Rattle.ice_bits.specs.Configuration.{Bits}
 use Rattle.ice_decode.specs.declared.point.Point.{Point}
-use Rattle.ice_decode.specs.Faults.{IsOrderOf}
+use Rattle.ice_decode.specs.Loops.{IsOrderOf}
 use Rattle.ice_decode.specs.Reads.{depends_on}
 use Rattle.ice_timing_delays.specs.declared.delays.Delays.{Delays}
 use Rattle.ice_timing.specs.Arriving.{ArrivalsData, Arrives, AreArrivalsOf, IsLatestPoint, IsBefore}

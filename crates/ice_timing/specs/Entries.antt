@@ -6,7 +6,8 @@ use Rattle.ice_base_values.specs.System.{present}
 use Rattle.ice_chip.specs.Database.{Parts}
 use Rattle.ice_chip.specs.Lookups.{is_io_kind}
 use Rattle.ice_chip.specs.declared.tile.Tile.{Tile}
-use Rattle.ice_chip.specs.Names.{clock_enable_name, set_reset_name, pad_output_name, output_enable_name}
+use Rattle.ice_chip.specs.Names.{pad_output_name, output_enable_name}
+use Rattle.ice_chip.specs.WireNames.{clock_enable_name, set_reset_name}
 use Rattle.ice_chip.specs.declared.rows.Pad.{Pad}
 use Rattle.ice_bits.specs.Configuration.{Bits}
 use Rattle.ice_decode.specs.declared.point.Point.{Point}

@@ -54,7 +54,8 @@ fn arrival(
     requires point { Has numbering.now point }
     requires long { length at.now ≡ length numbering.now }
     requires within { AreWithin (2 ^ 63) at.now }
-    ensures reached { IfOk result (IsReached chip.now (bits_of circuit.now.configuration) circuit.now.configuration.extras delays.now numbering.now at.now point) }
+    ensures reached { IfOk result (IsReached chip.now (bits_of circuit.now.configuration)
+        circuit.now.configuration.extras delays.now numbering.now at.now point) }
     ensures soon { IfOk result (IsSoon at.now) }
 {
     match latest_read(alloc, chip, circuit, numbering, at, point)? {
@@ -90,7 +91,9 @@ fn moments(
     requires circuit { IsCircuitOf chip.now circuit.now.configuration circuit.now }
     requires points { AreAllPoints chip.now numbering.now }
     requires order { order.now ≡ circuit.now.order }
-    ensures filled { IfOk result (λ at. AreFilled chip.now (bits_of circuit.now.configuration) circuit.now.configuration.extras delays.now numbering.now order.now (length order.now) at.items) }
+    ensures filled { IfOk result (λ at.
+        AreFilled chip.now (bits_of circuit.now.configuration) circuit.now.configuration.extras
+        delays.now numbering.now order.now (length order.now) at.items) }
     ensures within { IfOk result (λ at. AreWithin (2 ^ 63) at.items) }
 {
     if order.len() >= MOST_POINTS {
@@ -116,7 +119,8 @@ pub fn arrivals_of(
     delays: &Delays,
 ) -> Result<Arrivals, NoMemory>
     requires { IsCircuitOf chip.now circuit.now.configuration circuit.now }
-    ensures { IfOk result (AreArrivalsOf chip.now (bits_of circuit.now.configuration) circuit.now.configuration.extras delays.now) }
+    ensures { IfOk result (AreArrivalsOf chip.now (bits_of circuit.now.configuration)
+        circuit.now.configuration.extras delays.now) }
 {
     let numbering = Numbering::new(alloc, chip)?;
     let at = moments(alloc, chip, circuit, delays, &numbering, circuit.order())?;
@@ -128,7 +132,9 @@ impl Arrivals {
     pub fn of(&self, point: Point) -> u64
         requires { Has self.now.points point }
         ensures arrives { Arrives self.now point result }
-        ensures right { (parts : Parts) (bits : Bits) (extras : List (ℕ × ℕ × ℕ)) (d : DelaysData) → AreArrivalsOf parts bits extras d self.now → IsArrivalAt parts bits extras d point result }
+        ensures right { (parts : Parts) (bits : Bits) (extras : List (ℕ × ℕ × ℕ)) (d : DelaysData)
+            → AreArrivalsOf parts bits extras d self.now
+            → IsArrivalAt parts bits extras d point result }
         ensures within { result ≤ 2 ^ 63 }
     {
         let number = self.numbering.number(point);
@@ -149,7 +155,8 @@ impl Arrivals {
         requires circuit { IsCircuitOf chip.now circuit.now.configuration circuit.now }
         requires points { AreAllPoints chip.now self.now.points }
         requires point { Has self.now.points point }
-        ensures { IfOk result (IsBefore self.now (depends_on chip.now (bits_of circuit.now.configuration) circuit.now.configuration.extras point)) }
+        ensures { IfOk result (IsBefore self.now (depends_on chip.now
+            (bits_of circuit.now.configuration) circuit.now.configuration.extras point)) }
     {
         let number = latest_read(alloc, chip, circuit, &self.numbering, &self.at, point)?;
         match number {

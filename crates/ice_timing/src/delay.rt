@@ -39,7 +39,8 @@ fn start_if(comes_in: bool, start: u32) -> u32
 // When a signal is at a wire without a row that is on, by its role.
 fn role_start(chip: &Chip, circuit: &Circuit, delays: &Delays, role: Role) -> u32
     requires { IsCircuitOf chip.now circuit.now.configuration circuit.now }
-    ensures { result ≡ role_start chip.now (bits_of circuit.now.configuration) circuit.now.configuration.extras delays.now role }
+    ensures { result ≡ role_start chip.now (bits_of circuit.now.configuration)
+        circuit.now.configuration.extras delays.now role }
 {
     let bits = circuit.bits();
     match role {
@@ -68,7 +69,8 @@ pub(crate) fn start_of(chip: &Chip, circuit: &Circuit, delays: &Delays, point: P
     requires circuit { IsCircuitOf chip.now circuit.now.configuration circuit.now }
     requires point { HasWire chip.now point }
     ensures small { result < 2 ^ 32 }
-    ensures value { result ≡ start_of chip.now (bits_of circuit.now.configuration) circuit.now.configuration.extras delays.now point }
+    ensures value { result ≡ start_of chip.now (bits_of circuit.now.configuration)
+        circuit.now.configuration.extras delays.now point }
 {
     match point {
         Point::Wire(wire) => match driver_of(chip, circuit, wire) {
@@ -99,7 +101,8 @@ pub(crate) fn delay_of(chip: &Chip, circuit: &Circuit, delays: &Delays, point: P
     requires circuit { IsCircuitOf chip.now circuit.now.configuration circuit.now }
     requires point { HasWire chip.now point }
     ensures small { result < 2 ^ 32 }
-    ensures value { result ≡ delay_of chip.now (bits_of circuit.now.configuration) delays.now point }
+    ensures value { result
+        ≡ delay_of chip.now (bits_of circuit.now.configuration) delays.now point }
 {
     let Delays { switch, carry, .. } = *delays;
     match point {

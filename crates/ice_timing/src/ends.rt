@@ -24,7 +24,8 @@ fn add_entry(
     door: Door,
     last: Option<Point>,
 ) -> Result<(), NoMemory>
-    ensures { OnOk result (entries.new.items ≡ entries.old.items ++ entries_by end door (last ∷ [])) }
+    ensures { OnOk result
+        (entries.new.items ≡ entries.old.items ++ entries_by end door (last ∷ [])) }
 {
     if let Some(last) = last {
         entries.push(Entry { end, door, last })?;
@@ -84,7 +85,8 @@ fn add_flop(
     tile: TileAt,
     cell: u8,
 ) -> Result<(), NoMemory>
-    ensures { OnOk result (entries.new.items ≡ entries.old.items ++ flop_entries chip.now (bits_of bits.now) tile cell) }
+    ensures { OnOk result (entries.new.items
+        ≡ entries.old.items ++ flop_entries chip.now (bits_of bits.now) tile cell) }
 {
     if !has_flop(chip, bits, tile, cell) {
         return Ok(());
@@ -103,7 +105,8 @@ fn add_flops(
     tile: TileAt,
     cells: &[u8],
 ) -> Result<(), NoMemory>
-    ensures { OnOk result (entries.new.items ≡ entries.old.items ++ flat_map (flop_entries chip.now (bits_of bits.now) tile) cells.now) }
+    ensures { OnOk result (entries.new.items
+        ≡ entries.old.items ++ flat_map (flop_entries chip.now (bits_of bits.now) tile) cells.now) }
 {
     for cell in cells {
         add_flop(entries, chip, bits, tile, *cell)?;
@@ -118,7 +121,8 @@ fn add_tiles(
     bits: &Bits,
     tiles: &[TileAt],
 ) -> Result<(), NoMemory>
-    ensures { OnOk result (entries.new.items ≡ entries.old.items ++ flat_map (tile_entries chip.now (bits_of bits.now)) tiles.now) }
+    ensures { OnOk result (entries.new.items
+        ≡ entries.old.items ++ flat_map (tile_entries chip.now (bits_of bits.now)) tiles.now) }
 {
     for tile in tiles {
         add_flops(entries, chip, bits, *tile, &[0, 1, 2, 3, 4, 5, 6, 7])?;
@@ -128,7 +132,8 @@ fn add_tiles(
 
 // Adds the entries of a pad by its output, and by its enable where it has one.
 fn add_outputs(entries: &mut Vec<Entry>, chip: &Chip, pad: Pad, part: u8) -> Result<(), NoMemory>
-    ensures { OnOk result (entries.new.items ≡ entries.old.items ++ entries_by (End.Pad pad) (pad_door part) (pad_lasts chip.now pad part)) }
+    ensures { OnOk result (entries.new.items ≡ entries.old.items
+        ++ entries_by (End.Pad pad) (pad_door part) (pad_lasts chip.now pad part)) }
 {
     let output = at_pin(chip, pad.tile, &pad_output_name(pad.pio));
     let enable = at_pin(chip, pad.tile, &output_enable_name(pad.pio));
@@ -142,7 +147,8 @@ fn add_outputs(entries: &mut Vec<Entry>, chip: &Chip, pad: Pad, part: u8) -> Res
 
 // Adds the entries of a pad.
 fn add_pad(entries: &mut Vec<Entry>, chip: &Chip, bits: &Bits, pad: Pad) -> Result<(), NoMemory>
-    ensures { OnOk result (entries.new.items ≡ entries.old.items ++ pad_entries chip.now (bits_of bits.now) pad) }
+    ensures { OnOk result
+        (entries.new.items ≡ entries.old.items ++ pad_entries chip.now (bits_of bits.now) pad) }
 {
     add_outputs(entries, chip, pad, pin_type(chip, bits, pad) / 4)
 }
@@ -154,7 +160,8 @@ fn add_pads_in(
     bits: &Bits,
     tile: TileAt,
 ) -> Result<(), NoMemory>
-    ensures { OnOk result (entries.new.items ≡ entries.old.items ++ flat_map (pad_entries chip.now (bits_of bits.now)) (pads_in tile)) }
+    ensures { OnOk result (entries.new.items
+        ≡ entries.old.items ++ flat_map (pad_entries chip.now (bits_of bits.now)) (pads_in tile)) }
 {
     add_pad(entries, chip, bits, Pad { tile, pio: 0 })?;
     add_pad(entries, chip, bits, Pad { tile, pio: 1 })?;
@@ -168,7 +175,8 @@ fn add_tile_pads(
     bits: &Bits,
     tile: &Tile,
 ) -> Result<(), NoMemory>
-    ensures { OnOk result (entries.new.items ≡ entries.old.items ++ io_entries chip.now (bits_of bits.now) tile.now) }
+    ensures { OnOk result
+        (entries.new.items ≡ entries.old.items ++ io_entries chip.now (bits_of bits.now) tile.now) }
 {
     match tile.kind {
         TileKind::Io => add_pads_in(entries, chip, bits, tile.at),
@@ -178,7 +186,8 @@ fn add_tile_pads(
 
 // Adds the entries of all pads.
 fn add_pads(entries: &mut Vec<Entry>, chip: &Chip, bits: &Bits) -> Result<(), NoMemory>
-    ensures { OnOk result (entries.new.items ≡ entries.old.items ++ flat_map (pad_entries chip.now (bits_of bits.now)) (pads chip.now)) }
+    ensures { OnOk result (entries.new.items
+        ≡ entries.old.items ++ flat_map (pad_entries chip.now (bits_of bits.now)) (pads chip.now)) }
 {
     for tile in chip.tiles() {
         add_tile_pads(entries, chip, bits, tile)?;

@@ -50,7 +50,9 @@ fn numbers_read(
     requires circuit { IsCircuitOf chip.now circuit.now.configuration circuit.now }
     requires points { AreAllPoints chip.now numbering.now }
     requires point { Has numbering.now point }
-    ensures { IfOk result (λ row. map (slice_get numbering.now) row.items ≡ map (λ p. Some p) (depends_on chip.now (bits_of circuit.now.configuration) circuit.now.configuration.extras point)) }
+    ensures { IfOk result (λ row.
+        map (slice_get numbering.now) row.items ≡ map (λ p. Some p) (depends_on chip.now
+        (bits_of circuit.now.configuration) circuit.now.configuration.extras point)) }
 {
     chip.is_chip();
     let mut reads = Vec::new(alloc);
@@ -84,7 +86,8 @@ pub(crate) fn latest_read(
     requires points { AreAllPoints chip.now numbering.now }
     requires point { Has numbering.now point }
     requires long { length at.now ≡ length numbering.now }
-    ensures { IfOk result (IsLatest numbering.now at.now (depends_on chip.now (bits_of circuit.now.configuration) circuit.now.configuration.extras point)) }
+    ensures { IfOk result (IsLatest numbering.now at.now (depends_on chip.now
+        (bits_of circuit.now.configuration) circuit.now.configuration.extras point)) }
 {
     let row = numbers_read(alloc, chip, circuit, numbering, point)?;
     Ok(latest_of(at, &row))

@@ -34,7 +34,9 @@ fn door_delay(delays: &Delays, door: Door) -> u64
 fn moment_of(arrivals: &Arrivals, delays: &Delays, entry: Entry) -> Moment
     requires { Has arrivals.now.points entry.last }
     ensures entry { result.entry ≡ entry }
-    ensures moment { (parts : Parts) (bits : Bits) (extras : List (ℕ × ℕ × ℕ)) → AreArrivalsOf parts bits extras delays.now arrivals.now → IsMoment parts bits extras delays.now entry result.at }
+    ensures moment { (parts : Parts) (bits : Bits) (extras : List (ℕ × ℕ × ℕ))
+        → AreArrivalsOf parts bits extras delays.now arrivals.now
+        → IsMoment parts bits extras delays.now entry result.at }
 {
     Moment {
         entry,
@@ -59,7 +61,9 @@ pub(crate) fn latest_entry(
 ) -> Option<Moment>
     requires { All (λ e. Has arrivals.now.points e.last) entries.now }
     ensures none { IfNone result (entries.now ≡ []) }
-    ensures some { IfSome result (λ m. (parts : Parts) (bits : Bits) (extras : List (ℕ × ℕ × ℕ)) → AreArrivalsOf parts bits extras delays.now arrivals.now → IsLatestEntry parts bits extras delays.now entries.now m) }
+    ensures some { IfSome result (λ m. (parts : Parts) (bits : Bits) (extras : List (ℕ × ℕ × ℕ))
+        → AreArrivalsOf parts bits extras delays.now arrivals.now
+        → IsLatestEntry parts bits extras delays.now entries.now m) }
 {
     if entries.is_empty() {
         return None;

@@ -26,9 +26,11 @@ fn points_back(
     last: Point,
 ) -> Result<Vec<(Point, u64)>, NoMemory>
     requires circuit { IsCircuitOf chip.now circuit.now.configuration circuit.now }
-    requires arrivals { AreArrivalsOf chip.now (bits_of circuit.now.configuration) circuit.now.configuration.extras delays.now arrivals.now }
+    requires arrivals { AreArrivalsOf chip.now (bits_of circuit.now.configuration)
+        circuit.now.configuration.extras delays.now arrivals.now }
     requires last { Has arrivals.now.points last }
-    ensures { IfOk result (λ points. IsTimedTo chip.now (bits_of circuit.now.configuration) circuit.now.configuration.extras delays.now last (reverse points.items)) }
+    ensures { IfOk result (λ points. IsTimedTo chip.now (bits_of circuit.now.configuration)
+        circuit.now.configuration.extras delays.now last (reverse points.items)) }
 {
     let (_wires, _delays) = (chip.wires(), delays);
     let mut points = Vec::new(alloc);
@@ -53,9 +55,11 @@ fn path_to(
     last: Point,
 ) -> Result<Vec<(Point, u64)>, NoMemory>
     requires circuit { IsCircuitOf chip.now circuit.now.configuration circuit.now }
-    requires arrivals { AreArrivalsOf chip.now (bits_of circuit.now.configuration) circuit.now.configuration.extras delays.now arrivals.now }
+    requires arrivals { AreArrivalsOf chip.now (bits_of circuit.now.configuration)
+        circuit.now.configuration.extras delays.now arrivals.now }
     requires last { Has arrivals.now.points last }
-    ensures { IfOk result (λ points. IsTimedTo chip.now (bits_of circuit.now.configuration) circuit.now.configuration.extras delays.now last points.items) }
+    ensures { IfOk result (λ points. IsTimedTo chip.now (bits_of circuit.now.configuration)
+        circuit.now.configuration.extras delays.now last points.items) }
 {
     let mut points = points_back(alloc, chip, circuit, delays, arrivals, last)?;
     points.reverse();
@@ -75,8 +79,10 @@ pub fn longest(
     arrivals: &Arrivals,
 ) -> Result<Option<TimedPath>, NoMemory>
     requires circuit { IsCircuitOf chip.now circuit.now.configuration circuit.now }
-    requires arrivals { AreArrivalsOf chip.now (bits_of circuit.now.configuration) circuit.now.configuration.extras delays.now arrivals.now }
-    ensures { IfOk result (IsFound chip.now (bits_of circuit.now.configuration) circuit.now.configuration.extras delays.now) }
+    requires arrivals { AreArrivalsOf chip.now (bits_of circuit.now.configuration)
+        circuit.now.configuration.extras delays.now arrivals.now }
+    ensures { IfOk result (IsFound chip.now (bits_of circuit.now.configuration)
+        circuit.now.configuration.extras delays.now) }
 {
     chip.is_chip();
     let entries = entries(alloc, chip, circuit.bits())?;

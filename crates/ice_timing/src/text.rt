@@ -1,6 +1,6 @@
 //! The text of a longest path.
 ghost use Rattle.std.specs.Prelude.{◌≡◌, ◌++◌, ◌∷◌, [], map, OnOk, IfOk, option_map, decimal};
-ghost use Rattle.ice_base.specs.Text.{text_of_lines};
+ghost use Rattle.ice_base.specs.Lines.{text_of_lines};
 ghost use Rattle.ice_timing.specs.PathText.{place, point_words, end_words, reached_line, point_line, longest_line, path_lines, path_text};
 
 use crate::{End, TimedPath};
@@ -64,7 +64,8 @@ fn put_moment(text: &mut Vec<u8>, at: u64) -> Result<(), NoMemory>
 
 // Writes the line of a point.
 fn put_point_line(text: &mut Vec<u8>, point: Point, at: u64) -> Result<(), NoMemory>
-    ensures { OnOk result (text.new.items ≡ text.old.items ++ text_of_lines (point_line (point, at) ∷ [])) }
+    ensures { OnOk result
+        (text.new.items ≡ text.old.items ++ text_of_lines (point_line (point, at) ∷ [])) }
 {
     put_point(text, point)?;
     put_moment(text, at)?;
@@ -73,7 +74,8 @@ fn put_point_line(text: &mut Vec<u8>, point: Point, at: u64) -> Result<(), NoMem
 
 // Writes the lines of points.
 fn put_points(text: &mut Vec<u8>, points: &[(Point, u64)]) -> Result<(), NoMemory>
-    ensures { OnOk result (text.new.items ≡ text.old.items ++ text_of_lines (map point_line points.now)) }
+    ensures { OnOk result
+        (text.new.items ≡ text.old.items ++ text_of_lines (map point_line points.now)) }
 {
     for point in points {
         put_point_line(text, point.0, point.1)?;
@@ -83,7 +85,8 @@ fn put_points(text: &mut Vec<u8>, points: &[(Point, u64)]) -> Result<(), NoMemor
 
 // Writes the line of an end.
 fn put_end_line(text: &mut Vec<u8>, end: End, at: u64) -> Result<(), NoMemory>
-    ensures { OnOk result (text.new.items ≡ text.old.items ++ text_of_lines (reached_line (end_words end) at ∷ [])) }
+    ensures { OnOk result
+        (text.new.items ≡ text.old.items ++ text_of_lines (reached_line (end_words end) at ∷ [])) }
 {
     put_end(text, end)?;
     put_moment(text, at)?;
@@ -92,7 +95,8 @@ fn put_end_line(text: &mut Vec<u8>, end: End, at: u64) -> Result<(), NoMemory>
 
 // Writes the line of a length.
 fn put_length(text: &mut Vec<u8>, length: u64) -> Result<(), NoMemory>
-    ensures { OnOk result (text.new.items ≡ text.old.items ++ text_of_lines (longest_line length ∷ [])) }
+    ensures { OnOk result
+        (text.new.items ≡ text.old.items ++ text_of_lines (longest_line length ∷ [])) }
 {
     text.extend_from_slice(b"longest")?;
     put_number(text, length)?;

@@ -6,6 +6,7 @@ ghost use Rattle.ice_words.specs.Grips.{Shut, shut_of};
 
 use atomic_table::Closed;
 use ice_base::WireNo;
+use ice_core::MOST_COUNT;
 use std::alloc::Global;
 use std::marker::Model;
 
@@ -26,16 +27,21 @@ pub struct Counts {
 impl Model for Counts {
     ghost Value = { Shut };
 
-    ghost view = { λ c. shut_of c.opened.items c.closed.items c.up c.down c.claims c.releases c.holds };
+    ghost view = { λ c.
+        shut_of c.opened.items c.closed.items c.up c.down c.claims c.releases c.holds };
 
-    ghost invariant = { λ c. (length c.closed.items ≡ length c.opened.items) × (c.over_opened ≤ 2 ^ 48) × (c.up ≤ 2 ^ 48) × (c.over_opened + c.up ≡ overuse c.closed.items + c.down) };
+    ghost invariant = { λ c.
+        (length c.closed.items ≡ length c.opened.items) × (c.over_opened ≤ 2 ^ 48) × (c.up ≤ 2 ^ 48)
+        × (c.over_opened + c.up ≡ overuse c.closed.items + c.down) };
 }
 
 // The counts of so many wires in a table that no thread shares any more, in a list that has room for them.
 pub fn counts_in(shut: &Closed<u64, Global>, wires: usize, mut room: Vec<u32>) -> Vec<u32>
     requires full { IsFull shut.now.words }
-    requires wires { (slots_len shut.now.words ≡ wires + 3) × (length (drop 3 (slots_items shut.now.words)) ≡ wires) }
-    requires low { (w : ℕ) → w < wires → slice_index (slots_items shut.now.words) (w + 3) ≤ 131072 }
+    requires wires { (slots_len shut.now.words ≡ wires + 3)
+        × (length (drop 3 (slots_items shut.now.words)) ≡ wires) }
+    requires low { (w : ℕ) → w < wires
+        → slice_index (slots_items shut.now.words) (w + 3) ≤ MOST_COUNT }
     requires none { room.items ≡ [] }
     requires room { wires ≤ vec_capacity room }
     ensures { result.items ≡ drop 3 (slots_items shut.now.words) }

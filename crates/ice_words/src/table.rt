@@ -10,7 +10,8 @@ use crate::counts::{Counts, counts_in};
 use crate::view::{Opening, View};
 use atomic_table::{Join, Play, Seat, Split, Table, TableRule};
 use ice_base::{NoMemory, WireNo};
-use ice_core::{Task, old_routes};
+use ice_core::{MOST_NETS, Task, old_routes};
+use ice_words_hands::MOST_SPLITS;
 use std::alloc::Global;
 use std::marker::Model;
 
@@ -34,14 +35,16 @@ impl Play<u64, View> for Drawing {
 struct Releasing;
 
 impl Play<u64, View> for Releasing {
-    ghost then = { λ s v n w. Looks v.0 (s.word - 3) n × (w.0 ≡ released_at n (s.word - 3) v.0) × AreFew w.0 × (w.1 ≡ v.1) };
+    ghost then = { λ s v n w. Looks v.0 (s.word - 3) n × (w.0 ≡ released_at n (s.word - 3) v.0)
+        × AreFew w.0 × (w.1 ≡ v.1) };
 }
 
 // A wire was held.
 struct Holding;
 
 impl Play<u64, View> for Holding {
-    ghost then = { λ s v n w. Looks v.0 (s.word - 3) n × (w.0 ≡ held_at n (s.word - 3) v.0) × AreFew w.0 × (w.1 ≡ v.1) };
+    ghost then = { λ s v n w.
+        Looks v.0 (s.word - 3) n × (w.0 ≡ held_at n (s.word - 3) v.0) × AreFew w.0 × (w.1 ≡ v.1) };
 }
 
 // A count was read.
@@ -104,7 +107,10 @@ impl Model for Hand {
 
     ghost view = { λ h. grip_of h.seat.table_id h.seat.me.0 };
 
-    ghost invariant = { λ h. (h.seat.me.1 ≡ []) × (1 ≤ length h.seat.me.0.parts) × (h.claims ≡ total one h.seat.me.0) × (h.releases ≡ total releases_of h.seat.me.0) × (h.holds ≡ total holds_of h.seat.me.0) × (h.up ≡ h.seat.me.0.up) × (h.down ≡ h.seat.me.0.down) };
+    ghost invariant = { λ h.
+        (h.seat.me.1 ≡ []) × (1 ≤ length h.seat.me.0.parts) × (h.claims ≡ total one h.seat.me.0)
+        × (h.releases ≡ total releases_of h.seat.me.0) × (h.holds ≡ total holds_of h.seat.me.0)
+        × (h.up ≡ h.seat.me.0.up) × (h.down ≡ h.seat.me.0.down) };
 }
 
 /// The words that the workers of a round share. Word 0 is the number that is drawn next, words 1 and 2 are the overuses that came and that went, as
@@ -122,9 +128,15 @@ pub struct Words {
 impl Model for Words {
     ghost Value = { Board };
 
-    ghost view = { λ w. board_of w.table.shared.table_id (olds_of w.table.shared.key) w.table.shared.key.counts.items };
+    ghost view = { λ w. board_of w.table.shared.table_id (olds_of w.table.shared.key)
+        w.table.shared.key.counts.items };
 
-    ghost invariant = { λ w. (w.table.shared.table_id.words ≡ length w.table.shared.key.counts.items + 3) × (w.table.shared.table_id.slots ≡ 0) × (w.tasks ≡ length (olds_of w.table.shared.key)) × (w.opened.items ≡ w.table.shared.key.counts.items) × (w.over_opened ≡ overuse w.opened.items) × (w.over_opened ≤ 2 ^ 48) × (w.closed.items ≡ []) × (length w.opened.items ≤ vec_capacity w.closed) };
+    ghost invariant = { λ w.
+        (w.table.shared.table_id.words ≡ length w.table.shared.key.counts.items + 3)
+        × (w.table.shared.table_id.slots ≡ 0) × (w.tasks ≡ length (olds_of w.table.shared.key))
+        × (w.opened.items ≡ w.table.shared.key.counts.items)
+        × (w.over_opened ≡ overuse w.opened.items) × (w.over_opened ≤ 2 ^ 48)
+        × (w.closed.items ≡ []) × (length w.opened.items ≤ vec_capacity w.closed) };
 }
 
 // A copy of the old wires of each task, and of the counts.
@@ -154,7 +166,8 @@ fn words_of(alloc: Global, wires: u32, counts: &[u32]) -> Result<Vec<u64>, NoMem
 
 // How much the counts are above 1.
 fn overuse_of(counts: &[u32]) -> u64
-    requires { (length counts.now < 2 ^ 32) × ((w : ℕ) → w < length counts.now → slice_index counts.now w ≤ 65536) }
+    requires { (length counts.now < 2 ^ 32)
+        × ((w : ℕ) → w < length counts.now → slice_index counts.now w ≤ MOST_NETS) }
     ensures { (result ≡ overuse counts.now) × (result ≤ 2 ^ 48) }
 {
     let mut overuse = 0;
@@ -176,7 +189,8 @@ impl Words {
     ) -> Result<(Words, Hand), NoMemory>
         requires wires { length counts.now ≡ wires }
         requires opening { IsOpening (old_wires tasks.now) counts.now }
-        ensures board { IfOk result (λ r. (r.0.olds ≡ old_wires tasks.now) × (r.0.counts ≡ counts.now)) }
+        ensures board { IfOk result (λ r.
+            (r.0.olds ≡ old_wires tasks.now) × (r.0.counts ≡ counts.now)) }
         ensures of { IfOk result (λ r. IsHandOf r.0 r.1) }
         ensures view { IfOk result (λ r. r.1.view ≡ first_view (old_wires tasks.now) counts.now) }
     {
@@ -217,7 +231,9 @@ impl Words {
         ensures closing { IsClosing hand.view result.closed }
         ensures opened { result.opened ≡ hand.view.counts }
         ensures posted { IsPosted hand.view result.closed result.up result.down }
-        ensures numbers { (result.claims ≡ total one hand.view) × (result.releases ≡ total releases_of hand.view) × (result.holds ≡ total holds_of hand.view) }
+        ensures numbers { (result.claims ≡ total one hand.view)
+            × (result.releases ≡ total releases_of hand.view)
+            × (result.holds ≡ total holds_of hand.view) }
     {
         let Words {
             table,
@@ -258,7 +274,9 @@ impl Words {
         requires going { (own hand.old.view).ended ≡ false }
         requires whole { IsNewestReleased hand.old.view.olds (own hand.old.view).claims }
         ensures of { IsHandOf self.now hand.new }
-        ensures number { IfSome result (λ n. (n < length hand.old.view.olds) × IsAfter n (own hand.old.view).claims × (hand.new.view ≡ with_own (claiming n) hand.old.view)) }
+        ensures number { IfSome result (λ n.
+            (n < length hand.old.view.olds) × IsAfter n (own hand.old.view).claims
+            × (hand.new.view ≡ with_own (claiming n) hand.old.view)) }
         ensures none { IfNone result (hand.new.view ≡ with_own ending hand.old.view) }
     {
         let n = self.table.shared.fetch_add::<Drawing>(&mut hand.seat, 0, 1);
@@ -277,7 +295,8 @@ impl Words {
         requires wire { wire.0 < length hand.old.view.counts }
         requires may { MayRelease hand.old.view.olds (own hand.old.view).claims task wire.0 }
         ensures of { IsHandOf self.now hand.new }
-        ensures view { (n : ℕ) × Looks hand.old.view wire.0 n × (hand.new.view ≡ released_at n wire.0 hand.old.view) }
+        ensures view { (n : ℕ) × Looks hand.old.view wire.0 n
+            × (hand.new.view ≡ released_at n wire.0 hand.old.view) }
     {
         let _task = task;
         let found = self
@@ -298,7 +317,8 @@ impl Words {
         requires wire { wire.0 < length hand.old.view.counts }
         requires may { MayHold hand.old.view.olds (own hand.old.view).claims task wire.0 }
         ensures of { IsHandOf self.now hand.new }
-        ensures view { (n : ℕ) × Looks hand.old.view wire.0 n × (hand.new.view ≡ held_at n wire.0 hand.old.view) }
+        ensures view { (n : ℕ) × Looks hand.old.view wire.0 n
+            × (hand.new.view ≡ held_at n wire.0 hand.old.view) }
     {
         let _task = task;
         let found = self
@@ -345,7 +365,7 @@ impl Words {
     pub fn split(&self, hand: &mut Hand) -> Hand
         requires of { IsHandOf self.now hand.old }
         requires main { hand.old.view.main ≡ 1 }
-        requires few { hand.old.view.splits < 65535 }
+        requires few { hand.old.view.splits < MOST_SPLITS }
         ensures of { IsHandOf self.now hand.new × IsHandOf self.now result }
         ensures view { hand.new.view ≡ with_worker hand.old.view }
         ensures new { result.view ≡ worker_view hand.old.view }

@@ -17,7 +17,8 @@ impl Model for Histories {
 
     ghost view = { λ h. drop 1 (slots_items h.closed.words) };
 
-    ghost invariant = { λ h. (1 ≤ slots_len h.closed.words) × IsFull h.closed.words × (slots_len h.closed.slots ≡ 0) };
+    ghost invariant = { λ h.
+        (1 ≤ slots_len h.closed.words) × IsFull h.closed.words × (slots_len h.closed.slots ≡ 0) };
 }
 
 impl Drop for Histories {

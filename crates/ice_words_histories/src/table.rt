@@ -8,6 +8,7 @@ use crate::histories::Histories;
 use crate::view::{HistoryView, OldHistories};
 use atomic_table::{Join, Play, Seat, Split, Table, TableRule};
 use ice_base::{NoMemory, WireNo};
+use ice_words_hands::MOST_SPLITS;
 use std::alloc::Global;
 use std::marker::Model;
 
@@ -83,7 +84,10 @@ impl Model for HistoryWords {
 
     ghost view = { λ w. board_of w.table.shared.table_id w.table.shared.key.of_wires.items };
 
-    ghost invariant = { λ w. (w.table.shared.table_id.words ≡ length w.table.shared.key.of_wires.items + 1) × (w.table.shared.table_id.slots ≡ 0) × (w.wires ≡ length w.table.shared.key.of_wires.items) };
+    ghost invariant = { λ w.
+        (w.table.shared.table_id.words ≡ length w.table.shared.key.of_wires.items + 1)
+        × (w.table.shared.table_id.slots ≡ 0)
+        × (w.wires ≡ length w.table.shared.key.of_wires.items) };
 }
 
 // The words as a raising begins: no block drawn, and the histories.
@@ -133,7 +137,9 @@ impl HistoryWords {
         requires of { IsHandOf self.now hand.old }
         requires going { (own hand.old.view).ended ≡ false }
         ensures of { IsHandOf self.now hand.new }
-        ensures number { IfSome result (λ n. (n < blocks_of (length hand.old.view.histories)) × IsAfter n (own hand.old.view).blocks × (hand.new.view ≡ with_own (claiming n) hand.old.view)) }
+        ensures number { IfSome result (λ n.
+            (n < blocks_of (length hand.old.view.histories)) × IsAfter n (own hand.old.view).blocks
+            × (hand.new.view ≡ with_own (claiming n) hand.old.view)) }
         ensures none { IfNone result (hand.new.view ≡ with_own ending hand.old.view) }
     {
         let n = self.table.shared.fetch_add::<Drawing>(&mut hand.seat, 0, 1);
@@ -174,7 +180,7 @@ impl HistoryWords {
     pub fn split(&self, hand: &mut HistoryHand) -> HistoryHand
         requires of { IsHandOf self.now hand.old }
         requires main { hand.old.view.main ≡ 1 }
-        requires few { hand.old.view.splits < 65535 }
+        requires few { hand.old.view.splits < MOST_SPLITS }
         ensures of { IsHandOf self.now hand.new × IsHandOf self.now result }
         ensures view { hand.new.view ≡ with_worker hand.old.view }
         ensures new { result.view ≡ worker_view hand.old.view }

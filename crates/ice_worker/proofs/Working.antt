@@ -7,6 +7,7 @@ use Rattle.std.specs.List.{fold, AllByRecursion}
 use Rattle.ice_words.specs.declared.view.Claim.{Claim}
 use Rattle.ice_words.specs.declared.view.Part.{Part}
 use Rattle.ice_words.specs.declared.view.View.{View}
+use Rattle.ice_core.specs.declared.round_prices.RoundPrices.{RoundPrices}
 use Rattle.ice_core.specs.declared.task.Task.{Task}
 use Rattle.ice_core.specs.Routes.{numbers, old_wires, wires_of, IsOpening}
 use Rattle.ice_base.specs.declared.number.WireNo.{WireNo}
@@ -19,6 +20,7 @@ use Rattle.ice_negotiate_defs.specs.declared.stop.TreeStop.{TreeStop}
 use Rattle.ice_negotiate_defs.specs.declared.stop.TreeStop.TheVariants.{Unreachable, NoMemory}
 use Rattle.ice_negotiate_defs.specs.Trees.{IsCause}
 use Rattle.ice_worker.proofs.Wires.{wires_within}
+use Rattle.ice_worker.specs.Tasks.{ArePlayable}
 use Rattle.ice_worker.specs.Work.{changing, finished_as}
 use Rattle.ice_worker.proofs.Stepping.{with_list}
 use Rattle.ice_worker.specs.Kits.{Stops, stop_as, finished, claims_of, with_claims, AreFresh, IsFresh}
@@ -30,6 +32,11 @@ wires_at (x ∷ tasks) (suc i) t at = wires_at tasks i t at
 
 pub old_within : (olds : List (List ℕ)) (counts : List ℕ) (t : ℕ) (wires : List WireNo) → IsOpening olds counts → numbers wires ≡ wires_of olds t → AreWires (length counts) wires
 old_within olds counts t wires opening is = wires_within (length counts) wires (subst (AllByRecursion (λ w. w < length counts)) (sym is) (opening.within t))
+
+-- the opening that a hand knows is that of the tasks
+pub hand_opening : (v : View) (graph : Network) (r : RoundPrices) (tasks : List Task) → ArePlayable graph r tasks → v.olds ≡ old_wires tasks → v.counts ≡ r.counts.items → IsOpening v.olds v.counts
+hand_opening v graph r tasks playable olds counts =
+    subst (λ (o : List (List ℕ)). IsOpening o v.counts) (sym olds) (subst (λ (c : List ℕ). IsOpening (old_wires tasks) c) (sym counts) playable.opening)
 
 -- what holds of all tasks holds of one of them
 pub task_at : (P : Task → Type 0) (tasks : List Task) (i : ℕ) (t : Task) → t ≡ get_or tasks i t → i < length tasks → All P tasks → P t

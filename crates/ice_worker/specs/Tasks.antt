@@ -1,5 +1,6 @@
 -- The tree of a task: that of its net in prices of the round which leave the net's own old wires out.
 use Rattle.std.specs.Prelude.{◌≡◌, ℕ, ◌-◌, ◌<◌, List, Some, cond, length, slice_get, slice_index}
+use Rattle.std.specs.List.{All}
 use Rattle.ice_base.specs.declared.number.WireNo.{WireNo}
 use Rattle.ice_graph.specs.declared.tree.Tree.{Tree}
 use Rattle.ice_graph.specs.Network.{Network}
@@ -8,6 +9,7 @@ use Rattle.ice_core.specs.declared.round_prices.RoundPrices.{RoundPrices}
 use Rattle.ice_core.specs.declared.task.Task.{Task}
 use Rattle.ice_core.specs.Congestion.{ArePrices, price}
 use Rattle.ice_core.specs.Moves.{stands_in}
+use Rattle.ice_core.specs.Routes.{old_wires, IsOpening}
 use Rattle.ice_negotiate_defs.specs.Trees.{AreOnce, AreReached, AreSinks, IsRooted, IsTree, route_of}
 
 -- the others are those that hold a wire, less the net with these wires itself
@@ -32,6 +34,14 @@ KeepsBounds r task = (p : Prices) → AreFor r task p → ArePrices p
 pub record IsTaskOf (graph : Network) (task : Task) : Type 0 where
   pub root : task.root.0 < graph.wires
   pub sinks : AreSinks graph.wires task.sinks.items
+
+-- the tasks can be done in the prices of the round, whose counts are those that the tasks' old routes stand in
+pub record ArePlayable (graph : Network) (r : RoundPrices) (tasks : List Task) : Type 0 where
+  pub histories : length r.history.items ≡ graph.wires
+  pub counts : length r.counts.items ≡ graph.wires
+  pub opening : IsOpening (old_wires tasks) r.counts.items
+  pub wires : All (IsTaskOf graph) tasks
+  pub bounded : All (KeepsBounds r) tasks
 
 -- the new tree of the task
 abbrev pub IsNewTree : Network → RoundPrices → Task → Tree → Type 0

@@ -36,16 +36,19 @@ fn bring_back(others: &mut [u32], counts: &[u32], old: &[WireNo])
 
 // Takes the net with these wires off the others.
 fn leave(prices: &mut Prices, round: &RoundPrices, old: &[WireNo])
-    requires open { AreOpen round.now.round round.now.history.items round.now.counts.items prices.old }
+    requires open { AreOpen round.now.round round.now.history.items
+        round.now.counts.items prices.old }
     requires within { AreWires (length round.now.counts.items) old.now }
-    ensures { AreTaskPrices round.now.round round.now.history.items round.now.counts.items old.now prices.new }
+    ensures { AreTaskPrices round.now.round round.now.history.items round.now.counts.items
+        old.now prices.new }
 {
     leave_out(&mut prices.others, &round.counts, old);
 }
 
 // Brings the net with these wires back among the others.
 fn come_back(prices: &mut Prices, round: &RoundPrices, old: &[WireNo])
-    requires left { AreTaskPrices round.now.round round.now.history.items round.now.counts.items old.now prices.old }
+    requires left { AreTaskPrices round.now.round round.now.history.items round.now.counts.items
+        old.now prices.old }
     requires within { AreWires (length round.now.counts.items) old.now }
     ensures { AreOpen round.now.round round.now.history.items round.now.counts.items prices.new }
 {
@@ -72,7 +75,8 @@ pub fn task_tree(
     prices: &mut Prices,
     scratch: &mut Scratch,
 ) -> Result<Tree, TreeStop>
-    requires open { AreOpen round.now.round round.now.history.items round.now.counts.items prices.old }
+    requires open { AreOpen round.now.round round.now.history.items
+        round.now.counts.items prices.old }
     requires history { length round.now.history.items ≡ graph.now.wires }
     requires old { AreWires (length round.now.counts.items) task.now.old.items }
     requires task { IsTaskOf graph.now task.now }
@@ -83,7 +87,8 @@ pub fn task_tree(
     ensures apart { IfOk result (λ tree. AreOnce tree.wires.items) }
     ensures reached { OnOk result (AreReached graph.now.edges task.now.root task.now.sinks.items) }
     ensures stop { IfErr result (IsCause graph.now.edges task.now.root task.now.sinks.items) }
-    ensures open { AreOpen round.now.round round.now.history.items round.now.counts.items prices.new }
+    ensures open { AreOpen round.now.round round.now.history.items
+        round.now.counts.items prices.new }
     ensures scratch { IsFor graph.now scratch.new }
 {
     leave(prices, round, &task.old);

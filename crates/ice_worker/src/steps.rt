@@ -18,7 +18,8 @@ fn release_all(words: &Words, hand: &mut Hand, task: u32, wires: &[WireNo])
     requires within { AreWires (length hand.old.view.counts) wires.now }
     requires new { IsNew task (own hand.old.view).claims }
     ensures of { IsHandOf words.now hand.new }
-    ensures view { posted hand.new.view ≡ posted (with_own (changing (released_as (numbers wires.now))) hand.old.view) }
+    ensures view { posted hand.new.view
+        ≡ posted (with_own (changing (released_as (numbers wires.now))) hand.old.view) }
 {
     for wire in wires {
         words.release(hand, task, *wire);
@@ -34,7 +35,8 @@ fn hold_all(words: &Words, hand: &mut Hand, task: u32, wires: &[WireNo])
     requires within { AreWires (length hand.old.view.counts) wires.now }
     requires ready { IsReady hand.old.view.olds task (own hand.old.view).claims }
     ensures of { IsHandOf words.now hand.new }
-    ensures view { posted hand.new.view ≡ posted (with_own (changing (held_as (numbers wires.now))) hand.old.view) }
+    ensures view { posted hand.new.view
+        ≡ posted (with_own (changing (held_as (numbers wires.now))) hand.old.view) }
 {
     for wire in wires {
         words.hold(hand, task, *wire);
@@ -51,7 +53,8 @@ pub fn replace(words: &Words, hand: &mut Hand, task: u32, old: &[WireNo], new: &
     requires within_new { AreWires (length hand.old.view.counts) new.now }
     requires fresh { IsNew task (own hand.old.view).claims }
     ensures of { IsHandOf words.now hand.new }
-    ensures view { posted hand.new.view ≡ posted (with_own (changing (finished_as (numbers old.now) (numbers new.now))) hand.old.view) }
+    ensures view { posted hand.new.view ≡ posted
+        (with_own (changing (finished_as (numbers old.now) (numbers new.now))) hand.old.view) }
 {
     release_all(words, hand, task, old);
     hold_all(words, hand, task, new);

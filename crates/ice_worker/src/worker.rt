@@ -1,9 +1,9 @@
 //! A worker's tasks in a round.
 ghost use Rattle.std.specs.Prelude.{◌≡◌, ◌<◌, false, length, All, OnOk, IfErr};
-ghost use Rattle.ice_core.specs.Routes.{old_wires, IsOpening};
+ghost use Rattle.ice_core.specs.Routes.{old_wires};
 ghost use Rattle.ice_words.specs.Views.{with_own, own, posted};
 ghost use Rattle.ice_words.specs.Grips.{IsHandOf};
-ghost use Rattle.ice_worker.specs.Tasks.{IsMade, IsTaskOf, KeepsBounds};
+ghost use Rattle.ice_worker.specs.Tasks.{IsMade, ArePlayable};
 ghost use Rattle.ice_worker.specs.Work.{IsNew};
 ghost use Rattle.ice_worker.specs.Kits.{AddsOne, Falls, IsBegun, IsFresh, IsKitOf, Stops, StopsAt, claims_of, done_part, made_by};
 
@@ -34,17 +34,15 @@ fn do_task<G: Gate>(
     requires going { (own hand.old.view).ended ≡ false }
     requires tasks { hand.old.view.olds ≡ old_wires tasks.now }
     requires counts { hand.old.view.counts ≡ prices.now.counts.items }
-    requires history { length prices.now.history.items ≡ graph.now.wires }
-    requires graph { length prices.now.counts.items ≡ graph.now.wires }
-    requires opening { IsOpening hand.old.view.olds hand.old.view.counts }
-    requires wires { All (IsTaskOf graph.now) tasks.now }
-    requires bounded { All (KeepsBounds prices.now) tasks.now }
+    requires playable { ArePlayable graph.now prices.now tasks.now }
     requires number { number < length tasks.now }
     requires new { IsNew number (own hand.old.view).claims }
     requires kit { IsBegun graph.now prices.now kit.old }
     ensures of { IsHandOf words.now hand.new }
-    ensures done { OnOk result (AddsOne graph.now prices.now tasks.now number hand.old.view hand.new.view (made_by kit.old) (made_by kit.new)) }
-    ensures stop { IfErr result (λ stop. Stops graph.now tasks.now number stop × (hand.new ≡ hand.old) × (made_by kit.new ≡ made_by kit.old)) }
+    ensures done { OnOk result (AddsOne graph.now prices.now tasks.now number hand.old.view
+        hand.new.view (made_by kit.old) (made_by kit.new)) }
+    ensures stop { IfErr result (λ stop. Stops graph.now tasks.now number stop
+        × (hand.new ≡ hand.old) × (made_by kit.new ≡ made_by kit.old)) }
     ensures kit { IsBegun graph.now prices.now kit.new }
 {
     let task = &tasks[number as usize];
@@ -82,17 +80,15 @@ fn do_all<G: Gate>(
     requires fresh { IsFresh hand.old.view }
     requires tasks { hand.old.view.olds ≡ old_wires tasks.now }
     requires counts { hand.old.view.counts ≡ prices.now.counts.items }
-    requires history { length prices.now.history.items ≡ graph.now.wires }
-    requires graph { length prices.now.counts.items ≡ graph.now.wires }
-    requires opening { IsOpening hand.old.view.olds hand.old.view.counts }
-    requires wires { All (IsTaskOf graph.now) tasks.now }
-    requires bounded { All (KeepsBounds prices.now) tasks.now }
+    requires playable { ArePlayable graph.now prices.now tasks.now }
     requires kit { IsBegun graph.now prices.now kit.old }
     ensures of { IsHandOf words.now hand.new }
-    ensures done { OnOk result (posted hand.new.view ≡ posted (with_own (λ p. done_part (claims_of hand.old.view.olds (made_by kit.new))) hand.old.view)) }
+    ensures done { OnOk result (posted hand.new.view ≡ posted (with_own
+        (λ p. done_part (claims_of hand.old.view.olds (made_by kit.new))) hand.old.view)) }
     ensures made { All (IsMade graph.now prices.now tasks.now) (made_by kit.new) }
     ensures falls { Falls (claims_of hand.old.view.olds (made_by kit.new)) }
-    ensures stop { IfErr result (StopsAt graph.now tasks.now hand.old.view (posted hand.new.view) (made_by kit.new)) }
+    ensures stop { IfErr result
+        (StopsAt graph.now tasks.now hand.old.view (posted hand.new.view) (made_by kit.new)) }
     ensures kit { IsBegun graph.now prices.now kit.new }
 {
     kit.trees.clear();
@@ -134,17 +130,15 @@ pub fn work<G: Gate>(
     requires fresh { IsFresh hand.old.view }
     requires tasks { hand.old.view.olds ≡ old_wires tasks.now }
     requires counts { hand.old.view.counts ≡ prices.now.counts.items }
-    requires history { length prices.now.history.items ≡ graph.now.wires }
-    requires graph { length prices.now.counts.items ≡ graph.now.wires }
-    requires opening { IsOpening hand.old.view.olds hand.old.view.counts }
-    requires wires { All (IsTaskOf graph.now) tasks.now }
-    requires bounded { All (KeepsBounds prices.now) tasks.now }
+    requires playable { ArePlayable graph.now prices.now tasks.now }
     requires kit { IsKitOf graph.now kit.old }
     ensures of { IsHandOf words.now hand.new }
-    ensures done { OnOk result (hand.new.view ≡ posted (with_own (λ p. done_part (claims_of hand.old.view.olds (made_by kit.new))) hand.old.view)) }
+    ensures done { OnOk result (hand.new.view ≡ posted (with_own
+        (λ p. done_part (claims_of hand.old.view.olds (made_by kit.new))) hand.old.view)) }
     ensures made { All (IsMade graph.now prices.now tasks.now) (made_by kit.new) }
     ensures falls { Falls (claims_of hand.old.view.olds (made_by kit.new)) }
-    ensures stop { IfErr result (StopsAt graph.now tasks.now hand.old.view hand.new.view (made_by kit.new)) }
+    ensures stop { IfErr result
+        (StopsAt graph.now tasks.now hand.old.view hand.new.view (made_by kit.new)) }
     ensures kit { IsKitOf graph.now kit.new }
 {
     begin(&mut kit.prices, prices);

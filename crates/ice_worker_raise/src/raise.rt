@@ -32,7 +32,9 @@ fn raise_block(words: &HistoryWords, hand: &mut HistoryHand, counts: &Counts, bl
     requires claimed { 1 ≤ claims_on block (own hand.old.view) }
     requires below { AreBelow (block * 1024) (own hand.old.view).bumps }
     ensures of { IsHandOf words.now hand.new }
-    ensures view { hand.new.view ≡ with_own (wirings counts.now.closed (block * 1024) (wires_in (length hand.old.view.histories) block)) hand.old.view }
+    ensures view { hand.new.view ≡ with_own
+        (wirings counts.now.closed (block * 1024) (wires_in (length hand.old.view.histories) block))
+        hand.old.view }
 {
     let wires = words.wires();
     let first = block * 1024;
@@ -49,7 +51,10 @@ pub fn raise_blocks(words: &HistoryWords, hand: &mut HistoryHand, counts: &Count
     requires wires { length counts.now.opened ≡ length hand.old.view.histories }
     requires fresh { IsFresh hand.old.view }
     ensures of { IsHandOf words.now hand.new }
-    ensures view { hand.new.view ≡ with_own (λ p. raised_part counts.now.closed (length hand.old.view.histories) (own hand.new.view).blocks) hand.old.view }
+    ensures view { hand.new.view ≡ with_own
+        (λ p.
+        raised_part counts.now.closed (length hand.old.view.histories) (own hand.new.view).blocks)
+        hand.old.view }
     ensures falls { Falls (own hand.new.view).blocks }
 {
     while let Some(block) = words.claim_block(hand) {

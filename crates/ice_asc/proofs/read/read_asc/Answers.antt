@@ -1,5 +1,5 @@
 use Rattle.std.proofs.Common.{Ok}
-use Rattle.ice_bits.specs.Configuration.{IsOf}
+use Rattle.ice_bits.specs.Grids.{IsOf}
 use Rattle.ice_asc.specs.Grammar.{asc_in}
 use Rattle.ice_asc.proofs.Sound.{text_sound, answered}
 use Rattle.ice_asc.proofs.read.read_asc.Goals as goal

@@ -1,5 +1,5 @@
 use Rattle.std.proofs.Common.{◌≡◌, ◌++◌, map, take, All}
-use Rattle.ice_base.specs.Text.{text_of_lines}
+use Rattle.ice_base.specs.Lines.{text_of_lines}
 use Rattle.ice_asc.specs.RoundTrip.{IsSmall}
 use Rattle.ice_asc.specs.Text.{extra_line}
 use Rattle.ice_asc.proofs.write.put_extras.Given as goal

@@ -1,6 +1,6 @@
 use Rattle.std.proofs.Common.{◌≡◌, ◌++◌, map, option_map}
 use Rattle.std.specs.List.{range_with_len}
-use Rattle.ice_base.specs.Text.{text_of_lines}
+use Rattle.ice_base.specs.Lines.{text_of_lines}
 use Rattle.ice_bits.specs.Configuration.{bit_at}
 use Rattle.ice_asc.specs.Text.{row_line}
 use Rattle.ice_asc.proofs.write.put_rows.Given as goal

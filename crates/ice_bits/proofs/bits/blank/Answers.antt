@@ -1,5 +1,5 @@
 use Rattle.std.proofs.Common.{◌≡◌, map, sym, subst, ap, ◌∙◌}
-use Rattle.ice_bits.specs.Configuration.{IsOf, blank}
+use Rattle.ice_bits.specs.Grids.{IsOf, blank}
 use Rattle.ice_bits.specs.TileForms.{blank_at, kind_of}
 use Rattle.ice_bits.proofs.TileWrites.{of_tiles, blank_all}
 use Rattle.ice_bits.proofs.Forms.{blank_is_of}

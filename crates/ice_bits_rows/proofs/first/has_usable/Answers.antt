@@ -1,7 +1,7 @@
 use Rattle.std.proofs.Common.{◌≡◌, ◌+◌, List, length, map, sym, ◌∙◌, arith, rules}
 use Rattle.std.proofs.lemmas.List.{at_drop_all}
 use Rattle.ice_chip.specs.Views.{row_view, group_view}
-use Rattle.ice_chip.specs.declared.rows.Row.{Row}
+use Rattle.ice_chip.specs.declared.sections.Row.{Row}
 use Rattle.ice_bits_rows.specs.FirstSound.{some_usable}
 use Rattle.ice_bits_rows.proofs.first.has_usable.Goals as goal
 

@@ -3,7 +3,7 @@ use Rattle.std.specs.Borrow.{Bor}
 use Rattle.std.specs.List.{list_any}
 use Rattle.std.proofs.lemmas.List.{length-map, at_drop_all}
 use Rattle.ice_chip.specs.Views.{row_view, group_view}
-use Rattle.ice_chip.specs.declared.rows.Group.{Group}
+use Rattle.ice_chip.specs.declared.sections.Group.{Group}
 use Rattle.ice_bits_rows.specs.Lists.{views}
 use Rattle.ice_bits_rows.proofs.Known.{IsKnown, into_known}
 use Rattle.ice_bits_rows.specs.FirstSound.{some_usable}

@@ -1,7 +1,7 @@
 use Rattle.std.proofs.Common.{List, map, sym, ◌∙◌}
 use Rattle.std.proofs.lemmas.List.{at_drop_all}
 use Rattle.ice_chip.specs.Views.{group_view}
-use Rattle.ice_chip.specs.declared.rows.Group.{Group}
+use Rattle.ice_chip.specs.declared.sections.Group.{Group}
 use Rattle.ice_bits_rows.specs.Lists.{lists_of, listed}
 use Rattle.ice_bits_rows.proofs.lists.groups_by_wire.Goals as goal
 

@@ -1,17 +1,9 @@
-use Rattle.std.proofs.Common.{cond, Some, sym, ap, ◌∙◌}
-use Rattle.ice_bits_rows.specs.Owners.{same_key, owner_at, owner_with}
-use Rattle.ice_bits_rows.proofs.Shares.{put_twice}
+use Rattle.std.proofs.Common.{rules, length, sym, ap, ◌∙◌}
+use Rattle.ice_bits_rows.proofs.Blocks.{items_at, items_set}
 use Rattle.ice_bits_rows.proofs.owners.note.Goals as goal
 
-pub returns-in_ok-put : goal.returns-in_ok-put
-returns-in_ok-put c t b =
-    put_twice (same_key c.args.tile c.args.bit t b) c.owner_with-first.result c.owner_with.result (owner_at c.args.owners.now t b) (owner_at c.put.new.owners t b) (owner_at c.put-in-Some.new.owners t b)
-    (c.in_ok-owner.ensures.held t b) (c.in_ok-put.ensures.held t b)
-    ∙ ap (λ o. cond (same_key c.args.tile c.args.bit t b) (Some o) (owner_at c.args.owners.now t b))
-    (c.owner_with.ensures ∙ ap (owner_with c.args.wire.0) (sym c.in-Some.is ∙ c.in_ok-owner.ensures.known))
+pub note_in-requires-clause-long : goal.note_in-requires-clause-long
+note_in-requires-clause-long c = sym (ap length (items_at c.args.blocks.now c.args.number c.index-blocks-number.result c.requires.there)) ∙ c.requires.long
 
-pub returns-in_default : goal.returns-in_default
-returns-in_default c t b =
-    c.in_ok-owner.ensures.held t b
-    ∙ ap (λ o. cond (same_key c.args.tile c.args.bit t b) (Some o) (owner_at c.args.owners.now t b))
-    (c.owner_with-first.ensures ∙ ap (owner_with c.args.wire.0) (sym c.in_default.is ∙ c.in_ok-owner.ensures.known))
+pub returns : goal.returns
+returns c = items_set c.args.blocks.now c.args.number c.index-blocks-number.result c.note_in.new.block c.args.bit c.args.wire.0 c.requires.there (search rules)

@@ -1,21 +1,16 @@
-use Rattle.std.proofs.Common.{◌+◌, drop, get_or, length, ap, sym, ◌∙◌, arith}
-use Rattle.std.specs.Prelude.{◌==◌, ◌&&◌, ◌||◌, not}
-use Rattle.std.proofs.lemmas.List.{at_drop_more}
-use Rattle.ice_base.specs.declared.number.BitAt.{BitAt}
-use Rattle.ice_chip.specs.Database.{same_tile}
-use Rattle.ice_base.specs.Places.{same_place}
-use Rattle.ice_bits_rows.specs.Bundles.{has_bit}
-use Rattle.ice_bits_rows.specs.Owners.{owner_at, is_other}
-use Rattle.ice_bits_rows.proofs.Shares.{one_more}
+use Rattle.std.proofs.Common.{◌≡◌, ap, ◌∙◌}
+use Rattle.std.specs.Vec.{with_items}
+use Rattle.std.proofs.lemmas.List.{with_items_is}
+use Rattle.ice_chip.specs.Views.{group_view}
+use Rattle.ice_bits_rows.specs.Owners.{is_other, holds_more, items_of, owner_among}
 use Rattle.ice_bits_rows.proofs.owners.note_group.Goals as goal
 
-pub loop-bit-preserved : goal.loop-bit-preserved
-loop-bit-preserved c t b w =
-    let zero_bit : BitAt = record { row = 0; col = 0 } in
-    let long = ap length c.as_slice-bit-items.ensures in
-    one_more (λ x y. owner_at c.loop-bit.owners x y) c.args.group.now.tile _ c.args.group.now.wire.0 t b w (owner_at c.note.new.owners t b) (has_bit (drop (c.loop-bit.bit-index + 1) c.args.group.now.bits.items) b)
-    (c.in_ok-note.ensures t b)
-    ∙ ap (λ z. is_other w (owner_at c.loop-bit.owners t b) || (same_tile c.args.group.now.tile t && (not (c.args.group.now.wire.0 == w) && z)))
-    (ap (λ zs. same_place (get_or zs c.loop-bit.bit-index zero_bit) b || has_bit (drop (c.loop-bit.bit-index + 1) c.args.group.now.bits.items) b) c.as_slice-bit-items.ensures
-    ∙ sym (at_drop_more (λ xs. has_bit xs b) c.args.group.now.bits.items c.loop-bit.bit-index zero_bit (omega (arith, long))))
-    ∙ c.loop-bit.invariant t b w
+pub returns-clause-held : goal.returns-clause-held
+returns-clause-held c = λ t b w.
+    let tiles = c.number_of.new.owners.tiles.keys in
+    let old = c.number_of.new.owners.blocks in
+    let items : (with_items old c.note_bits.new.blocks).items ≡ c.note_bits.new.blocks = with_items_is old c.note_bits.new.blocks (c.note_bits.auto.blocks ∙ c.deref_mut.ensures.len) in
+    ap (λ blocks. is_other w (owner_among tiles (items_of blocks) t b)) items
+    ∙ c.note_bits.ensures.held t b w
+    ∙ ap (λ blocks. holds_more (group_view c.args.group.now) t w b (is_other w (owner_among tiles (items_of blocks) t b))) c.deref_mut.ensures.value
+    ∙ ap (λ o. holds_more (group_view c.args.group.now) t w b (is_other w o)) (c.in_ok-number.ensures.same t b)

@@ -1,5 +1,5 @@
 use Rattle.std.proofs.Common.{◌≡◌, ◌<◌, drop}
-use Rattle.ice_blif.specs.Gates.{bits_from}
+use Rattle.ice_blif.specs.Parameters.{bits_from}
 use Rattle.ice_blif.proofs.parameter.bits_from.Given as goal
 
 abbrev pub invariant-loop-i : goal.invariant-loop-i

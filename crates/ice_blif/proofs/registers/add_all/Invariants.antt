@@ -1,7 +1,7 @@
 use Rattle.std.proofs.Common.{◌≡◌, ◌+◌, ◌*◌, ◌≤◌, length, All}
 use Rattle.std.specs.Vec.Iter.{into_iter_items, into_iter_len}
 use Rattle.ice_blif.specs.Cells.{IsReadCell}
-use Rattle.ice_blif.specs.Registers.{apart_says}
+use Rattle.ice_blif.specs.FewSignals.{apart_says}
 use Rattle.ice_blif.proofs.registers.add_all.Given as goal
 
 abbrev pub invariant-loop-cell : goal.invariant-loop-cell

@@ -1,6 +1,6 @@
 use Rattle.std.proofs.Common.{◌≡◌, ◌++◌, map, take, All}
 use Rattle.std.specs.List.{flat_map}
-use Rattle.ice_base.specs.Text.{text_of_lines}
+use Rattle.ice_base.specs.Lines.{text_of_lines}
 use Rattle.ice_blif_write.specs.RoundTrip.{IsSmallCell}
 use Rattle.ice_blif_write.specs.Text.{line_of, cell_lines}
 use Rattle.ice_blif_write.proofs.cells.put_cells.Given as goal

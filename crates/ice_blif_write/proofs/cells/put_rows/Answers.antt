@@ -1,5 +1,5 @@
 use Rattle.std.proofs.Common.{◌≡◌, ◌<◌, ◌+◌, ◌-◌, ◌^◌, ◌++◌, map, arith}
-use Rattle.ice_base.specs.Text.{text_of_lines}
+use Rattle.ice_base.specs.Lines.{text_of_lines}
 use Rattle.ice_blif_write.specs.Text.{line_of, rows_from}
 use Rattle.ice_blif_write.proofs.Joining.{entry_put}
 use Rattle.ice_blif_write.proofs.cells.put_rows.Goals as goal

@@ -1,5 +1,5 @@
 use Rattle.std.proofs.Common.{◌≡◌, ◌++◌, map}
-use Rattle.ice_chip.specs.Lookups.{tile_of}
+use Rattle.ice_chip.specs.Listings.{tile_of}
 use Rattle.ice_chip.proofs.index.tiles.Given as goal
 
 abbrev pub invariant-loop-at : goal.invariant-loop-at

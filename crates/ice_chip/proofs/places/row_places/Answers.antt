@@ -1,8 +1,8 @@
 use Rattle.std.proofs.Common.{◌≡◌, ◌+◌, ◌++◌, map, Some, drop, length, ap, ◌∙◌, arith}
-use Rattle.ice_chip.specs.Lookups.{rows_of}
+use Rattle.ice_chip.specs.Listings.{rows_of}
 use Rattle.ice_chip.specs.Indices.{row_at, places_up_to}
 use Rattle.ice_chip.specs.Views.{group_view}
-use Rattle.ice_chip.specs.declared.rows.Group.{Group}
+use Rattle.ice_chip.specs.declared.sections.Group.{Group}
 use Rattle.ice_chip.proofs.RowPlaces.{next_group, all_groups}
 use Rattle.ice_chip.proofs.places.row_places.Goals as goal
 

@@ -1,5 +1,5 @@
 use Rattle.std.proofs.Common.{◌≡◌, ◌++◌, map, drop, Some}
-use Rattle.ice_chip.specs.Lookups.{rows_of}
+use Rattle.ice_chip.specs.Listings.{rows_of}
 use Rattle.ice_chip.specs.Indices.{row_at}
 use Rattle.ice_chip.specs.Views.{group_view}
 use Rattle.ice_chip.proofs.places.row_places.Given as goal

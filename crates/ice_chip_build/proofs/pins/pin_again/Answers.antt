@@ -3,7 +3,7 @@ use Rattle.std.proofs.lemmas.List.{at_drop_all}
 use Rattle.ice_chip.specs.Database.{tile_known}
 use Rattle.ice_chip.specs.SharedPins.{with_pin_name, shared_from}
 use Rattle.ice_chip.specs.Views.{name_view, parts_view}
-use Rattle.ice_chip.specs.declared.rows.NameRow.{NameRow}
+use Rattle.ice_chip.specs.declared.sections.NameRow.{NameRow}
 use Rattle.ice_chip_build.proofs.SharedPinSteps.{pin_passed}
 use Rattle.ice_chip_build.proofs.pins.pin_again.Goals as goal
 

@@ -1,5 +1,5 @@
 use Rattle.std.proofs.Common.{◌≡◌, ◌-◌}
-use Rattle.ice_decode.specs.Faults.{first_of}
+use Rattle.ice_decode.specs.FirstFaults.{first_of}
 use Rattle.ice_decode.specs.GlobalNames.{if_named, global_named}
 use Rattle.ice_decode.proofs.buffers.global_named.Given as goal
 

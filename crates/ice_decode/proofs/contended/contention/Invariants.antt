@@ -1,7 +1,7 @@
 use Rattle.std.proofs.Common.{◌≡◌, ◌-◌, length}
 use Rattle.std.specs.Prelude.{slice_index_or}
 use Rattle.ice_decode.specs.declared.driver.Driver.TheVariants.{Nothing}
-use Rattle.ice_decode.specs.Faults.{contended_by, first_of}
+use Rattle.ice_decode.specs.FirstFaults.{contended_by, first_of}
 use Rattle.ice_decode.specs.Tables.{contended_among}
 use Rattle.ice_decode.proofs.contended.contention.Given as goal
 

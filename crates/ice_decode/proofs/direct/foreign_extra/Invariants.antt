@@ -1,5 +1,5 @@
 use Rattle.std.proofs.Common.{◌≡◌, drop}
-use Rattle.ice_decode.specs.Direct.{foreign_extra}
+use Rattle.ice_decode.specs.FirstFaults.{foreign_extra}
 use Rattle.ice_decode.proofs.direct.foreign_extra.Given as goal
 
 abbrev pub invariant-loop-extra : goal.invariant-loop-extra

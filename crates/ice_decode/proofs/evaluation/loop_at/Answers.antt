@@ -2,7 +2,7 @@ use Rattle.std.proofs.Common.{length, ap, sym, ◌∙◌, subst}
 use Rattle.ice_base_values.specs.Order.{IsCycleBelow, IsSimpleCycle}
 use Rattle.ice_base_values.specs.Graph.{depends_of}
 use Rattle.ice_bits.specs.Configuration.{bits_of}
-use Rattle.ice_decode.specs.Faults.{wires_among}
+use Rattle.ice_decode.specs.Loops.{wires_among}
 use Rattle.ice_decode.proofs.Graphs.{cycle_below}
 use Rattle.ice_decode.proofs.Evaluated.{loop_of}
 use Rattle.ice_decode.proofs.evaluation.loop_at.Goals as goal

@@ -1,7 +1,7 @@
 use Rattle.std.proofs.Common.{◌++◌, map, sym, ap, ◌∙◌}
 use Rattle.std.proofs.lemmas.List.{append-nil, at_drop_all}
 use Rattle.ice_base.specs.declared.number.WireNo.{WireNo}
-use Rattle.ice_decode.specs.Faults.{wires_among}
+use Rattle.ice_decode.specs.Loops.{wires_among}
 use Rattle.ice_decode.proofs.evaluation.wires_among.Goals as goal
 
 pub returns : goal.returns

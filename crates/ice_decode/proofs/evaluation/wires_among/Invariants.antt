@@ -1,6 +1,6 @@
 use Rattle.std.proofs.Common.{◌≡◌, ◌++◌, map, drop}
 use Rattle.ice_base.specs.declared.number.WireNo.{WireNo}
-use Rattle.ice_decode.specs.Faults.{wires_among}
+use Rattle.ice_decode.specs.Loops.{wires_among}
 use Rattle.ice_decode.proofs.evaluation.wires_among.Given as goal
 
 abbrev pub invariant-loop-point : goal.invariant-loop-point

@@ -1,6 +1,6 @@
 use Rattle.std.proofs.Common.{◌≡◌, drop}
 use Rattle.ice_bits.specs.Configuration.{bits_of}
-use Rattle.ice_decode.specs.Faults.{foreign_function}
+use Rattle.ice_decode.specs.FirstFaults.{foreign_function}
 use Rattle.ice_decode.specs.ForeignTiles.{foreign_among}
 use Rattle.ice_decode.proofs.foreign.foreign_function.Given as goal
 

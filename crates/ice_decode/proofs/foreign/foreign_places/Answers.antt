@@ -1,7 +1,7 @@
 use Rattle.std.proofs.Common.{List, map, sym, ◌∙◌}
 use Rattle.std.proofs.lemmas.List.{at_drop_all}
 use Rattle.ice_chip.specs.Views.{function_view}
-use Rattle.ice_chip.specs.declared.rows.Function.{Function}
+use Rattle.ice_chip.specs.declared.sections.Function.{Function}
 use Rattle.ice_decode.specs.ForeignPlaces.{foreign_places}
 use Rattle.ice_decode.proofs.foreign.foreign_places.Goals as goal
 

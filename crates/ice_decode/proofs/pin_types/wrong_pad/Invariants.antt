@@ -1,6 +1,6 @@
 use Rattle.std.proofs.Common.{◌≡◌, drop}
 use Rattle.ice_bits.specs.Configuration.{bits_of}
-use Rattle.ice_decode.specs.Faults.{wrong_pad}
+use Rattle.ice_decode.specs.FirstFaults.{wrong_pad}
 use Rattle.ice_decode.specs.PadTiles.{wrong_among}
 use Rattle.ice_decode.proofs.pin_types.wrong_pad.Given as goal
 

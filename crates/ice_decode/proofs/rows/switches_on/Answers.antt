@@ -1,7 +1,7 @@
 use Rattle.std.proofs.Common.{◌++◌, List, map, sym, ap, ◌∙◌}
 use Rattle.std.proofs.lemmas.List.{append-nil, at_drop_all}
 use Rattle.ice_chip.specs.Views.{group_view}
-use Rattle.ice_chip.specs.declared.rows.Group.{Group}
+use Rattle.ice_chip.specs.declared.sections.Group.{Group}
 use Rattle.ice_bits.specs.Configuration.{bits_of}
 use Rattle.ice_decode.specs.Drivers.{switches_on}
 use Rattle.ice_decode.proofs.rows.switches_on.Goals as goal

@@ -1,5 +1,5 @@
 use Rattle.std.proofs.Common.{◌≡◌, ◌≤◌, ◌-◌, ◌++◌, length, take, true}
-use Rattle.ice_desk.specs.Desk.{SameButSaying, SameTest}
+use Rattle.ice_desk.specs.Changes.{SameButSaying, SameTest}
 use Rattle.ice_desk.proofs.Saying.{AreSays}
 use Rattle.ice_desk.proofs.say.say_text.Given as goal
 

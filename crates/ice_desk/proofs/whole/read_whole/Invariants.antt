@@ -1,5 +1,5 @@
 use Rattle.std.proofs.Common.{◌≡◌, ◌-◌, ◌≤◌, ◌++◌, length, true, Some, vec_len}
-use Rattle.ice_desk.specs.Desk.{SameButReading, SameTest, after_one}
+use Rattle.ice_desk.specs.Changes.{SameButReading, SameTest, after_one}
 use Rattle.ice_desk.proofs.whole.read_whole.Given as goal
 
 abbrev pub invariant-loop-text : goal.invariant-loop-text

@@ -1,5 +1,5 @@
 use Rattle.std.proofs.Common.{◌≡◌, ◌-◌, ◌≤◌, length, take, true, Some}
-use Rattle.ice_desk.specs.Desk.{SameButWriting, SameTest, after_one}
+use Rattle.ice_desk.specs.Changes.{SameButWriting, SameTest, after_one}
 use Rattle.ice_desk.proofs.whole.write_whole.Given as goal
 
 abbrev pub invariant-loop-at : goal.invariant-loop-at

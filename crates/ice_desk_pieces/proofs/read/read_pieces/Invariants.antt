@@ -1,5 +1,5 @@
 use Rattle.std.proofs.Common.{◌≡◌, ℕ, List, ◌-◌, ◌≤◌, ◌++◌, length, true, Some}
-use Rattle.ice_desk.specs.Desk.{SameButReading, SameTest, after_one}
+use Rattle.ice_desk.specs.Changes.{SameButReading, SameTest, after_one}
 use Rattle.ice_desk_pieces.specs.Taken.{TakesMore}
 use Rattle.ice_desk_pieces.proofs.read.read_pieces.Given as goal
 

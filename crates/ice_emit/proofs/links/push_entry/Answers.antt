@@ -1,6 +1,6 @@
 use Rattle.std.proofs.Common.{◌++◌, ap, sym, ◌∙◌}
 use Rattle.ice_chip.specs.Lookups.{wire_named}
-use Rattle.ice_chip.specs.Names.{carry_in_name, first_carry_name}
+use Rattle.ice_chip.specs.WireNames.{carry_in_name, first_carry_name}
 use Rattle.ice_emit_settings.specs.Views.{switches}
 use Rattle.ice_emit.proofs.Listed.{link_added, later_chunk}
 use Rattle.ice_emit.proofs.links.push_entry.Goals as goal

@@ -1,5 +1,5 @@
 use Rattle.std.proofs.Common.{List, length, ap, sym, subst, ◌∙◌}
-use Rattle.ice_base.specs.declared.number.BitAt.{BitAt}
+use Rattle.ice_base.specs.declared.bit.BitAt.{BitAt}
 use Rattle.ice_base_values.specs.Order.{Has}
 use Rattle.ice_chip.specs.Views.{group_view, row_view}
 use Rattle.ice_emit_bits.proofs.Placing.{group_bits_there, group_values_fit}

@@ -2,7 +2,7 @@ use Rattle.std.proofs.lemmas.List.{drop_more}
 use Rattle.ice_bits_rows.proofs.Taken.{taken}
 use Rattle.ice_bits_rows.proofs.Known.{alone_row, source_below}
 use Rattle.std.proofs.Common.{arith, ℕ, ◌≡◌, ◌<◌, length, ◌+◌, ◌++◌, ◌∷◌, List, append-nil, drop, map, refl, ap, sym, subst, ◌∙◌}
-use Rattle.ice_chip.specs.declared.rows.Row.{Row}
+use Rattle.ice_chip.specs.declared.sections.Row.{Row}
 use Rattle.ice_chip.specs.Database.{SwitchGroup}
 use Rattle.ice_chip.specs.Views.{row_view, group_view}
 use Rattle.ice_fabric.specs.Edges.{edges_of, places_of}

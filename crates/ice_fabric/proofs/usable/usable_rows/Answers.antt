@@ -3,7 +3,7 @@ use Rattle.std.specs.List.{Contains}
 use Rattle.std.proofs.lemmas.List.{length-map}
 use Rattle.ice_chip.specs.Views.{row_view, group_view}
 use Rattle.ice_bits_rows.proofs.Known.{IsKnown, group_known, group_there}
-use Rattle.ice_chip.specs.declared.rows.Group.{Group}
+use Rattle.ice_chip.specs.declared.sections.Group.{Group}
 use Rattle.ice_fabric.specs.Edges.{edges_from, places_from}
 use Rattle.ice_fabric.proofs.GroupRows.{next_piece}
 use Rattle.ice_fabric.proofs.usable.usable_rows.Goals as goal

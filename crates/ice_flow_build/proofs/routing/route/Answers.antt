@@ -9,12 +9,12 @@ use Rattle.ice_flow_build.proofs.routing.route.Goals as goal
 pub open-requires-clause-nets : goal.open-requires-clause-nets
 open-requires-clause-nets g c κs within =
     c.placed_nets_are_routable.ensures c.args.index.now.chip.now c.requires.placed.0 (plan_in c.args.layout.now) c.args.layout.now.pads.pullups c.in_ok-graph.graph c.args.nets.now
-    c.wires-wires.ensures.chip c.requires.placed.1 (record { wires = c.in_ok-graph.ensures.wires; edges = c.in_ok-graph.ensures.edges }) c.requires.nets
+    c.is_chip.ensures c.requires.placed.1 (record { wires = c.in_ok-graph.ensures.wires; edges = c.in_ok-graph.ensures.edges }) c.requires.nets
 
 pub route_from-requires-clause-nets : goal.route_from-requires-clause-nets
 route_from-requires-clause-nets g c κs within =
     c.placed_nets_are_routable.ensures c.args.index.now.chip.now c.requires.placed.0 (plan_in c.args.layout.now) c.args.layout.now.pads.pullups c.in_ok-graph.graph c.args.nets.now
-    c.wires-wires.ensures.chip c.requires.placed.1 (record { wires = c.in_ok-graph.ensures.wires; edges = c.in_ok-graph.ensures.edges }) c.requires.nets
+    c.is_chip.ensures c.requires.placed.1 (record { wires = c.in_ok-graph.ensures.wires; edges = c.in_ok-graph.ensures.edges }) c.requires.nets
 
 pub returns-clause-trees : goal.returns-clause-trees
 returns-clause-trees g c =

@@ -1,5 +1,5 @@
 use Rattle.std.proofs.Common.{ℕ, ◌≡◌, ◌≤◌, ◌<◌, ◌+◌, ◌-◌, length, take}
-use Rattle.ice_desk.specs.Desk.{SameButReading, SameTest, after_one, after_more}
+use Rattle.ice_desk.specs.Changes.{SameButReading, SameTest, after_one, after_more}
 use Rattle.ice_flow_frame.specs.Reading.{most_bytes, FitBefore}
 use Rattle.ice_flow_frame.specs.TextLists.{texts_view}
 use Rattle.ice_flow_frame.specs.Texts.{files_view, AreTexts}

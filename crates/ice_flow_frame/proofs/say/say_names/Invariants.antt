@@ -1,5 +1,5 @@
 use Rattle.std.proofs.Common.{take, true}
-use Rattle.ice_desk.specs.Desk.{SameButSaying, SameTest}
+use Rattle.ice_desk.specs.Changes.{SameButSaying, SameTest}
 use Rattle.ice_flow_frame.specs.Causes.{spaced}
 use Rattle.ice_desk.specs.Said.{IsSaid}
 use Rattle.ice_flow_frame.proofs.say.say_names.Given as goal

@@ -1,5 +1,5 @@
 use Rattle.std.proofs.Common.{map, take, true}
-use Rattle.ice_desk.specs.Desk.{SameButSaying, SameTest}
+use Rattle.ice_desk.specs.Changes.{SameButSaying, SameTest}
 use Rattle.ice_flow_frame.specs.Causes.{joined}
 use Rattle.ice_flow_frame.specs.Pieces.{piece_text}
 use Rattle.ice_desk.specs.Said.{IsSaid}

@@ -1,5 +1,5 @@
 use Rattle.std.proofs.Common.{ℕ, ◌≡◌, ◌≤◌, ◌-◌, List, true, length}
-use Rattle.ice_desk.specs.Desk.{SameTest}
+use Rattle.ice_desk.specs.Changes.{SameTest}
 use Rattle.ice_flow_frame.specs.Ends.{SameButFiles}
 use Rattle.ice_flow_frame.specs.Texts.{files_view}
 use Rattle.ice_flow_frame.specs.Writing.{MadeMore, after_writing}

@@ -3,7 +3,8 @@ use Rattle.ice_flow_build.specs.Laid.{IsLaidOut, task_of}
 use Rattle.ice_flow_build.specs.declared.answer.Layout.{Layout}
 use Rattle.ice_flow_sample_cmd.specs.Samples.{package_name}
 use Rattle.ice_flow_sample_cmd.specs.Standing.{TaskStands}
-use Rattle.ice_flow_sample_cmd.proofs.Refusing.{memory_refused, end_refused, sampled}
+use Rattle.ice_flow_frame.proofs.Refusing.{memory_refused}
+use Rattle.ice_flow_sample_cmd.proofs.Refusing.{end_refused, sampled}
 use Rattle.ice_flow_sample_cmd.proofs.routing.route_placed.Goals as goal
 
 pub route_layout-requires-clause-placed : goal.route_layout-requires-clause-placed

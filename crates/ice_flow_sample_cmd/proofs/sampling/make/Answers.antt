@@ -2,7 +2,7 @@ use Rattle.std.proofs.Common.{[]}
 use Rattle.ice_flow_build.specs.Laid.{task_of}
 use Rattle.ice_flow_sample_cmd.specs.Samples.{package_name}
 use Rattle.ice_flow_sample_cmd.specs.Standing.{TaskStands, StandsForSample}
-use Rattle.ice_flow_sample_cmd.proofs.Refusing.{refused_behind}
+use Rattle.ice_flow_frame.proofs.Refusing.{refused_behind}
 use Rattle.ice_flow_sample_cmd.proofs.Standing.{task_so}
 use Rattle.ice_flow_sample_cmd.proofs.sampling.make.Goals as goal
 

@@ -1,6 +1,6 @@
 use Rattle.std.proofs.Common.{refl}
 use Rattle.ice_flow_sample_cmd.specs.Standing.{BlifStands, StandsForSample}
-use Rattle.ice_flow_sample_cmd.proofs.Refusing.{refusal_behind}
+use Rattle.ice_flow_frame.proofs.Refusing.{refusal_behind}
 use Rattle.ice_flow_sample_cmd.proofs.Standing.{chip_so}
 use Rattle.ice_flow_sample_cmd.proofs.texts.read_sample.Goals as goal
 

@@ -1,6 +1,6 @@
 use Rattle.std.proofs.Common.{◌≡◌, ◌++◌, map, take, length}
 use Rattle.std.specs.List.{zip}
-use Rattle.ice_base.specs.Text.{text_of_lines}
+use Rattle.ice_base.specs.Lines.{text_of_lines}
 use Rattle.ice_chip.specs.Views.{package_view}
 use Rattle.ice_report.specs.PinReport.{pin_line}
 use Rattle.ice_report.proofs.pins.put_ports.Given as goal

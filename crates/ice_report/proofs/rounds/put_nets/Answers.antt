@@ -1,5 +1,5 @@
 use Rattle.std.proofs.Common.{◌++◌, ◌∷◌, [], ap, ◌∙◌}
-use Rattle.ice_base.specs.Text.{text_of_lines}
+use Rattle.ice_base.specs.Lines.{text_of_lines}
 use Rattle.ice_report.specs.RouteReport.{net_line}
 use Rattle.ice_base.proofs.Pieces.{further, line_more}
 use Rattle.ice_report.proofs.rounds.put_nets.Goals as goal

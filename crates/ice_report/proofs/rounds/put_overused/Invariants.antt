@@ -1,5 +1,5 @@
 use Rattle.std.proofs.Common.{◌≡◌, ◌++◌, map, take, codes}
-use Rattle.ice_base.specs.Text.{text_of_lines}
+use Rattle.ice_base.specs.Lines.{text_of_lines}
 use Rattle.ice_report.specs.RouteReport.{wire_line}
 use Rattle.ice_report.proofs.rounds.put_overused.Given as goal
 

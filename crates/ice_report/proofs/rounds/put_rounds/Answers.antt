@@ -1,5 +1,5 @@
 use Rattle.std.proofs.Common.{◌++◌, ap, ◌∙◌}
-use Rattle.ice_base.specs.Text.{text_of_lines}
+use Rattle.ice_base.specs.Lines.{text_of_lines}
 use Rattle.ice_report.specs.RouteReport.{round_lines}
 use Rattle.ice_base.proofs.Pieces.{further, lines_more}
 use Rattle.ice_report.proofs.rounds.put_rounds.Goals as goal

@@ -1,5 +1,5 @@
 use Rattle.std.proofs.Common.{◌≡◌, ◌+◌, ◌*◌, ◌≤◌, ◌++◌}
-use Rattle.ice_base.specs.Text.{text_of_lines}
+use Rattle.ice_base.specs.Lines.{text_of_lines}
 use Rattle.ice_sample.specs.Bits.{columns_of, function_rows, function_series}
 use Rattle.ice_sample.proofs.bits.put_functions.Given as goal
 

@@ -1,5 +1,5 @@
 use Rattle.std.proofs.Common.{◌≡◌, ◌++◌, subst}
-use Rattle.ice_base.specs.Text.{text_of_lines}
+use Rattle.ice_base.specs.Lines.{text_of_lines}
 use Rattle.ice_sample.specs.Bits.{io_bit_lines, logic_bit_lines}
 use Rattle.ice_sample.specs.Wires.{all_wire_lines}
 use Rattle.ice_sample.specs.Groups.{all_group_lines}

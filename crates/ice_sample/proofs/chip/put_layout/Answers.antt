@@ -1,6 +1,6 @@
 use Rattle.std.proofs.Common.{◌≡◌, ℕ, ◌++◌, List, OnOk, ap, ◌∙◌, subst}
 use Rattle.ice_base.specs.declared.number.TileAt.{TileAt}
-use Rattle.ice_base.specs.Text.{text_of_lines}
+use Rattle.ice_base.specs.Lines.{text_of_lines}
 use Rattle.ice_sample.specs.declared.grid.Tile.{Tile}
 use Rattle.ice_sample.specs.declared.pads.Pad.{Pad}
 use Rattle.ice_sample.specs.Sections.{io_places, logic_places, pads_at}

@@ -1,5 +1,5 @@
 use Rattle.std.proofs.Common.{◌≡◌, ◌++◌, subst}
-use Rattle.ice_base.specs.Text.{text_of_lines}
+use Rattle.ice_base.specs.Lines.{text_of_lines}
 use Rattle.ice_sample.specs.Sections.{device_lines, pin_lines, global_lines, input_enable_lines, column_buffer_lines, tile_lines}
 use Rattle.ice_sample.specs.Chip.{sections_of}
 use Rattle.ice_base.proofs.Pieces.{text_join, further}

@@ -1,5 +1,5 @@
 use Rattle.std.proofs.Common.{[], ◌∷◌, ◌++◌, ap, ◌∙◌}
-use Rattle.ice_base.specs.Text.{text_of_lines}
+use Rattle.ice_base.specs.Lines.{text_of_lines}
 use Rattle.ice_sample.specs.Netlist.{drawn, drawn_inputs, gate_line, table_line, flip_flop_lines, cell_lines, word}
 use Rattle.ice_sample.proofs.Picking.{lines_third}
 use Rattle.ice_sample.proofs.netlist.put_cell.Goals as goal

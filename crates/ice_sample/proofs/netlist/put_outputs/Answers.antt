@@ -1,6 +1,6 @@
 use Rattle.std.proofs.Common.{◌≡◌, ◌++◌, subst, arith}
 use Rattle.std.specs.List.{flat_map, range_with_len}
-use Rattle.ice_base.specs.Text.{text_of_lines}
+use Rattle.ice_base.specs.Lines.{text_of_lines}
 use Rattle.ice_sample.specs.Netlist.{names, output_lines, all_output_lines}
 use Rattle.ice_base.proofs.Pieces.{further}
 use Rattle.ice_sample.proofs.Numbering.{numbers_more, nothing_more}

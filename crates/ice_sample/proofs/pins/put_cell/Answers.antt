@@ -1,6 +1,6 @@
 use Rattle.std.proofs.Common.{◌≡◌, ◌+◌, ◌*◌, ◌++◌, map, refl, subst, arith}
 use Rattle.std.specs.List.{range_with_len}
-use Rattle.ice_base.specs.Text.{text_of_lines}
+use Rattle.ice_base.specs.Lines.{text_of_lines}
 use Rattle.ice_sample.specs.Groups.{SampleGroup, group_lines, groups_from, input_group}
 use Rattle.ice_base.proofs.Pieces.{further}
 use Rattle.ice_sample.proofs.Numbering.{series_more, nothing_more}

@@ -1,6 +1,6 @@
 use Rattle.std.proofs.Common.{◌≡◌, ◌+◌, ◌*◌, ◌++◌, refl, subst, arith}
 use Rattle.std.specs.List.{flat_map, range_with_len}
-use Rattle.ice_base.specs.Text.{text_of_lines}
+use Rattle.ice_base.specs.Lines.{text_of_lines}
 use Rattle.ice_sample.specs.Groups.{SampleGroup, group_lines, groups_from, cell_groups, input_groups}
 use Rattle.ice_base.proofs.Pieces.{further}
 use Rattle.ice_sample.proofs.Numbering.{lists_more, nothing_more}

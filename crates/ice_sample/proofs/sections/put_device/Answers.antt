@@ -1,6 +1,6 @@
 use Rattle.std.proofs.Common.{◌≡◌, ◌++◌, ◌∷◌, [], codes, decimal, subst}
 use Rattle.std.specs.Prelude.{OnOk}
-use Rattle.ice_base.specs.Text.{text_of_lines}
+use Rattle.ice_base.specs.Lines.{text_of_lines}
 use Rattle.ice_sample.specs.Lines.{number_words}
 use Rattle.ice_sample.proofs.sections.put_device.Goals as goal
 

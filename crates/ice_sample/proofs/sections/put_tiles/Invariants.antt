@@ -1,5 +1,5 @@
 use Rattle.std.proofs.Common.{◌≡◌, ◌++◌, take}
-use Rattle.ice_base.specs.Text.{text_of_lines}
+use Rattle.ice_base.specs.Lines.{text_of_lines}
 use Rattle.ice_sample.specs.Sections.{tile_lines}
 use Rattle.ice_sample.proofs.sections.put_tiles.Given as goal
 

@@ -1,6 +1,6 @@
 use Rattle.std.proofs.Common.{◌≡◌, ◌+◌, ◌*◌, ◌≤◌, ◌++◌, map}
 use Rattle.std.specs.List.{range_with_len}
-use Rattle.ice_base.specs.Text.{text_of_lines}
+use Rattle.ice_base.specs.Lines.{text_of_lines}
 use Rattle.ice_sample.specs.Groups.{groups_from, track_group}
 use Rattle.ice_sample.proofs.tracks.put_tracks.Given as goal
 

@@ -1,6 +1,6 @@
 use Rattle.std.proofs.Common.{◌≡◌, ◌+◌, ◌*◌, ◌++◌, map, refl, subst, arith}
 use Rattle.std.specs.List.{flat_map, range_with_len}
-use Rattle.ice_base.specs.Text.{text_of_lines}
+use Rattle.ice_base.specs.Lines.{text_of_lines}
 use Rattle.ice_sample.specs.Wires.{wire_lines, named_wires, cell_name, cell_pins, cell_names}
 use Rattle.ice_base.proofs.Pieces.{further}
 use Rattle.ice_sample.proofs.Numbering.{lists_more, nothing_more}

@@ -1,5 +1,5 @@
 use Rattle.std.proofs.Common.{◌≡◌, ◌+◌, ◌++◌, map, take}
-use Rattle.ice_base.specs.Text.{text_of_lines}
+use Rattle.ice_base.specs.Lines.{text_of_lines}
 use Rattle.ice_sample.specs.Wires.{named_wires, cell_name}
 use Rattle.ice_sample.proofs.wires.put_cell_wires.Given as goal
 

@@ -1,5 +1,5 @@
 use Rattle.std.proofs.Common.{◌≡◌, ◌+◌, ◌++◌, subst}
-use Rattle.ice_base.specs.Text.{text_of_lines}
+use Rattle.ice_base.specs.Lines.{text_of_lines}
 use Rattle.ice_sample.specs.Kinds.{kind_at}
 use Rattle.ice_sample.specs.Wires.{named_wires, cell_names, control_names, track_names, carry_in_line, above}
 use Rattle.ice_base.proofs.Pieces.{further, text_join}

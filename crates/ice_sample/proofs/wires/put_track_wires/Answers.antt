@@ -1,6 +1,6 @@
 use Rattle.std.proofs.Common.{◌≡◌, ◌+◌, ◌++◌, map, codes, decimal, refl, subst, arith}
 use Rattle.std.specs.List.{range_with_len}
-use Rattle.ice_base.specs.Text.{text_of_lines}
+use Rattle.ice_base.specs.Lines.{text_of_lines}
 use Rattle.ice_sample.specs.Wires.{wire_lines, named_wires, track_names}
 use Rattle.ice_base.proofs.Pieces.{further}
 use Rattle.ice_sample.proofs.Numbering.{series_more, nothing_more}

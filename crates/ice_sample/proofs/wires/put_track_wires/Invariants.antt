@@ -1,6 +1,6 @@
 use Rattle.std.proofs.Common.{◌≡◌, ◌++◌, map, codes, decimal}
 use Rattle.std.specs.List.{range_with_len}
-use Rattle.ice_base.specs.Text.{text_of_lines}
+use Rattle.ice_base.specs.Lines.{text_of_lines}
 use Rattle.ice_sample.specs.Wires.{named_wires}
 use Rattle.ice_sample.proofs.wires.put_track_wires.Given as goal
 

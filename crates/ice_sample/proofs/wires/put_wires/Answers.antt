@@ -1,7 +1,7 @@
 use Rattle.std.proofs.Common.{◌++◌, sym, arith, append-nil, ap, ◌∙◌}
 use Rattle.std.specs.List.{flat_map}
 use Rattle.std.proofs.lemmas.List.{take_all}
-use Rattle.ice_base.specs.Text.{text_of_lines}
+use Rattle.ice_base.specs.Lines.{text_of_lines}
 use Rattle.ice_sample.specs.Wires.{all_global_lines, tile_wire_lines}
 use Rattle.ice_sample.proofs.Counting.{tile_within}
 use Rattle.ice_base.proofs.Pieces.{further}

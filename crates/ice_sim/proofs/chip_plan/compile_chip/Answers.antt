@@ -2,7 +2,7 @@ use Rattle.std.proofs.Common.{IfOk, sym, subst}
 use Rattle.ice_bits.specs.Configuration.{bits_of}
 use Rattle.ice_sim.specs.ConfiguredChips.{ConfiguredData, AreStoresOf}
 use Rattle.ice_sim.specs.ChipRuns.{IsCompiled}
-use Rattle.ice_decode.specs.Faults.{IsOrderOf}
+use Rattle.ice_decode.specs.Loops.{IsOrderOf}
 use Rattle.ice_sim.proofs.chip_plan.compile_chip.Goals as goal
 
 pub compile_configured-requires-clause-stores : goal.compile_configured-requires-clause-stores

@@ -4,7 +4,7 @@ use Rattle.ice_bits.specs.Configuration.{bits_of}
 use Rattle.ice_base_values.proofs.Members.{At_within}
 use Rattle.ice_decode.specs.declared.point.Point.{Point}
 use Rattle.ice_decode.specs.declared.point.Point.TheVariants.{Wire}
-use Rattle.ice_decode.specs.Faults.{IsOrderOf}
+use Rattle.ice_decode.specs.Loops.{IsOrderOf}
 use Rattle.ice_timing.specs.Arriving.{AreFilled, AreWithin, IsReached, IsSoon}
 use Rattle.ice_timing.proofs.Filled.{none_filled, order_numbered, one_filled, well_within}
 use Rattle.ice_timing.proofs.arrivals.moments.Goals as goal

@@ -3,7 +3,7 @@ use Rattle.std.proofs.lemmas.List.Elements.{All-same}
 use Rattle.ice_base_values.specs.System.{present}
 use Rattle.ice_bits.specs.Configuration.{Configuration, bits_of}
 use Rattle.ice_decode.specs.declared.point.Point.{Point}
-use Rattle.ice_decode.specs.Direct.{AreDirect}
+use Rattle.ice_decode.specs.Tables.{AreDirect}
 use Rattle.ice_decode.specs.Points.{IsNumbered}
 use Rattle.ice_decode.specs.Reads.{reads_at}
 use Rattle.ice_timing.proofs.Numbers.{reads_there, wire_there}

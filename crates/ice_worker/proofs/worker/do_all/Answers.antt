@@ -6,7 +6,6 @@ use Rattle.ice_words.specs.declared.view.Claim.{Claim}
 use Rattle.ice_words.specs.Views.{own, with_own, claim_of, claiming, posted}
 use Rattle.ice_words.specs.Grips.{Grip}
 use Rattle.ice_words.specs.Rule.{IsNewestReleased, IsAfter}
-use Rattle.ice_core.specs.Routes.{IsOpening}
 use Rattle.ice_graph.specs.declared.tree.Tree.{Tree}
 use Rattle.ice_worker.specs.Tasks.{IsMade}
 use Rattle.ice_worker.specs.Work.{IsNew}
@@ -29,17 +28,6 @@ do_task-requires-clause-tasks g c = ap (λ (u : View). u.olds) c.in-Some.ensures
 
 pub do_task-requires-clause-counts : goal.do_task-requires-clause-counts
 do_task-requires-clause-counts g c = ap (λ (u : View). u.counts) c.in-Some.ensures.number.2 ∙ (ap (λ (u : View). u.counts) c.loop-number.invariant.view ∙ c.requires.counts)
-
-pub do_task-requires-clause-opening : goal.do_task-requires-clause-opening
-do_task-requires-clause-opening g c =
-    subst (λ (u : View). IsOpening u.olds u.counts) (sym (ap posted c.in-Some.ensures.number.2))
-    (subst (λ (u : View). IsOpening u.olds u.counts) (sym c.loop-number.invariant.view) c.requires.opening)
-
-pub do_task-requires-clause-wires : goal.do_task-requires-clause-wires
-do_task-requires-clause-wires g c = c.requires.wires
-
-pub do_task-requires-clause-bounded : goal.do_task-requires-clause-bounded
-do_task-requires-clause-bounded g c = c.requires.bounded
 
 pub do_task-requires-clause-going : goal.do_task-requires-clause-going
 do_task-requires-clause-going g c =

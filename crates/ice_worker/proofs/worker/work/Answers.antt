@@ -19,4 +19,4 @@ returns-clause-stop g c = subst (λ (u : View). IfErr c.do_all-done.result (Stop
 pub returns-clause-kit : goal.returns-clause-kit
 returns-clause-kit g c =
     let k = c.do_all-done.ensures.kit in
-    record { room = k.room; histories = ap length k.prices.histories ∙ c.requires.history; others = ap length k.prices.others ∙ c.requires.graph }
+    record { room = k.room; histories = ap length k.prices.histories ∙ c.requires.playable.histories; others = ap length k.prices.others ∙ c.requires.playable.counts }

@@ -1,5 +1,6 @@
 use Rattle.std.proofs.Common.{◌≡◌, true, false, sym, subst}
-use Rattle.ice_bits.specs.Configuration.{Configuration, bits_of, is_there}
+use Rattle.ice_bits.specs.Configuration.{Configuration, bits_of}
+use Rattle.ice_bits.specs.Grids.{is_there}
 use Rattle.ice_bits.specs.Written.{with_bit}
 use Rattle.ice_bits.specs.Rewriting.{Rewrites}
 use Rattle.ice_bits.proofs.TileWrites.{bit_rewrites, never_there}

@@ -1,16 +1,14 @@
-use Rattle.std.proofs.Common.{rules}
-use Rattle.std.proofs.lemmas.Result.{IfOk-at_ok}
-use Rattle.ice_chip.specs.IndexForms.{IsWireIndex, IsServerIndex, IsPlaceIndex}
-use Rattle.ice_chip.specs.Views.{parts_view}
+use Rattle.std.proofs.Common.{◌≡◌, IfOk, sym, subst, ap, ◌∙◌}
+use Rattle.ice_chip.specs.Database.{Parts}
+use Rattle.ice_chip.specs.IsRead.{IsRead}
+use Rattle.ice_chip.specs.Whole.{whole_fault}
 use Rattle.ice_chip.proofs.chip.Chip.new.Goals as goal
 
-pub invariant_of-result : goal.invariant_of-result
-invariant_of-result c =
-    let parts = parts_view c.args.parts in
-    let servers = IfOk-at_ok _ c.in-Ok.ensures.0 c.both-servers.ensures in
-    record {
-      wires = IfOk-at_ok (IsWireIndex parts) servers.0 c.new-wires.ensures;
-      servers = IfOk-at_ok (IsServerIndex parts) servers.1 c.new.ensures;
-      places = IfOk-at_ok (IsPlaceIndex parts) c.in-Ok.ensures.1 c.new-2.ensures;
-      chip = search rules;
-    }
+pub indexed-requires-clause-read : goal.indexed-requires-clause-read
+indexed-requires-clause-read c = subst IsRead (sym c.into_parts-parts.ensures.rows) c.requires.read
+
+pub indexed-requires-clause-faultless : goal.indexed-requires-clause-faultless
+indexed-requires-clause-faultless c = ap whole_fault c.into_parts-parts.ensures.rows ∙ c.requires.faultless
+
+pub returns : goal.returns
+returns c = subst (λ (parts : Parts). IfOk c.indexed.result (λ chip. chip ≡ parts)) c.into_parts-parts.ensures.rows c.indexed.ensures

@@ -1,5 +1,5 @@
 use Rattle.std.proofs.Common.{◌<◌, sym, subst, ap, ◌∙◌, IsSome, length, map, get_or, slice_get}
-use Rattle.ice_chip.specs.Lookups.{rows_of}
+use Rattle.ice_chip.specs.Listings.{rows_of}
 use Rattle.ice_chip.specs.Indices.{row_at}
 use Rattle.ice_chip.specs.Views.{group_view, parts_view}
 use Rattle.ice_chip.proofs.Readers.{place_found, place_some}
