@@ -1,7 +1,9 @@
 #!/usr/bin/env python3
 """Routes the nets of a placement with free inputs and with one input for each signal, and says a row for each.
 
-usage: measure.py FOLDER CHIP PACKAGE PCF NAME..; FOLDER has the programs time_place and route_nets, and each NAME's NAME.blif
+usage: measure.py FOLDER CHIP PACKAGE PCF NAME..; FOLDER has the programs time_place, route_nets and plain, and each NAME's NAME.blif
+
+The plain program in C++ routes the same nets with free inputs; that it says the same checksum of trees and logs is looked at.
 """
 import collections
 import subprocess
@@ -54,8 +56,16 @@ def turn(words):
     numbers = {word: rest for word, _, rest in (line.partition(" ") for line in said)}
     verdict = next(word for word in ("routed", "gaveup", "unreachable") if word in numbers)
     _, rounds, _, moves, *_ = numbers[verdict].split()
-    answer = f"{verdict}, {rounds} rounds", moves, numbers["held"]
+    answer = f"{verdict}, {rounds} rounds", moves, numbers["held"], numbers[verdict]
     return answer, int(numbers["rounds"]) / 1e6
+
+
+def least_turn(words):
+    """What routing says, and the least time of some turns."""
+    answer, least = turn(words)
+    for _ in range(TURNS - 1 if least < LONG else 0):
+        least = min(least, turn(words)[1])
+    return answer, least
 
 
 def main():
@@ -65,10 +75,15 @@ def main():
         for what, chosen in ("free", nets), ("one each", list(bound(nets))):
             path = f"{folder}/{name}.nets"
             write(chosen, path)
-            (answer, moves, held), least = turn([f"{folder}/route_nets", chip, path, ROUNDS])
-            for _ in range(TURNS - 1 if least < LONG else 0):
-                least = min(least, turn([f"{folder}/route_nets", chip, path, ROUNDS])[1])
-            print(f"| {name} | {what} | {answer} | {moves} | {held} | {least:.2f} s |", flush=True)
+            words = [chip, path, ROUNDS]
+            (answer, moves, held, proved), least = least_turn([f"{folder}/route_nets", *words])
+            beside = ""
+            if chosen is nets:
+                (_, _, _, plain), other = least_turn([f"{folder}/plain", *words])
+                if plain != proved:
+                    sys.exit(f"{name}: the plain program says {plain}, and not {proved}")
+                beside = f"{other:.2f} s, {least / other:.2f}"
+            print(f"| {name} | {what} | {answer} | {moves} | {held} | {least:.2f} s | {beside} |", flush=True)
 
 
 main()
