@@ -1,7 +1,7 @@
 #!/usr/bin/env python3
 """Compares what is built today with what was built when the digests were written: byte for byte, for the same placement.
 
-usage: same.py PROGRAM SHOW FOLDER [first | write]; SHOW is the built ice_tests_passes, and FOLDER has the netlists that make.py makes
+usage: same.py PROGRAM SHOW FOLDER [first | write]; SHOW is the built ice_tests_cases, and FOLDER has the netlists that make.py makes
 
 The file digests has, for each of ten netlists, the SHA-256 of
 - the netlist's text with its constraints, but for what says where its source lay, since another Yosys makes other netlists, of which nothing can be compared;
@@ -57,7 +57,7 @@ def first(show, path):
         for kind in "blif", "pcf":
             with open(os.path.join(folder, f"it.{kind}"), "wb") as out:
                 out.write(blif_of(path) if kind == "blif" else b"")
-        said = subprocess.run([show, "it.blif", "it.pcf"], cwd=folder, check=True, stdout=subprocess.PIPE).stdout
+        said = subprocess.run([show, "it.blif", "it.pcf"], cwd=folder, check=True, stdin=subprocess.DEVNULL, stdout=subprocess.PIPE).stdout
     placed, mark, routed = said.partition(b"\nreport\n")
     return [digest(placed), digest(routed) if mark else "none"]
 

@@ -2,8 +2,8 @@
 
 words FOLDER                   says the names of the texts of each case of a folder, in order
 netlists COUNT FOLDER          makes netlists at random, each with its text of levels; the same count makes the same netlists
-compare FOLDER SHOWN           compares what ice_tests_passes showed with the dumps and the texts of bits of a folder
-play FOLDER SHOWN PROGRAM      plays the designs that ice_tests_passes showed, and the netlists by play-net of PROGRAM
+compare FOLDER SHOWN           compares what ice_tests_cases showed with the dumps and the texts of bits of a folder
+play FOLDER SHOWN PROGRAM      plays the designs that ice_tests_cases showed, and the netlists by play-net of PROGRAM
 """
 import pathlib
 import random

@@ -140,4 +140,5 @@ def bench(blif, steps, verilog, out):
     open(out, "w", encoding="ascii").write("\n".join(lines) + "\n")
 
 
-{"levels": levels, "draw": draw, "compare": compare, "bench": bench}[sys.argv[1]](*sys.argv[2:])
+if __name__ == "__main__":
+    {"levels": levels, "draw": draw, "compare": compare, "bench": bench}[sys.argv[1]](*sys.argv[2:])

@@ -8,6 +8,7 @@ mod bundles;
 mod classes;
 mod middles;
 mod nets;
+mod schedule;
 mod search;
 mod signals;
 mod state;

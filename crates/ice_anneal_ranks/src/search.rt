@@ -2,42 +2,13 @@
 
 use crate::classes::{Mover, Movers};
 use crate::middles::Middles;
+use crate::schedule::{Schedule, Step, TURNS};
 use crate::state::State;
 use crate::units::MoveUnit;
 use ice_anneal_reach::Middle;
 use ice_anneal_seats::{below, spare};
 use ice_anneal_ways::Ways;
 use rand_pcg::Pcg32;
-
-/// How often the heat falls.
-const STEPS: u64 = 64;
-
-/// How many steps are left when long ways begin to pull.
-const PULLED_STEPS: u64 = 25;
-
-/// How often the places amid nets are noted at each step.
-const TURNS: u64 = 4;
-
-/// How many tries there are for each cell at each step.
-const CELL_TRIES: u64 = 48;
-
-/// How many more tries with cells there are at each step, for the sake of small designs.
-const MORE_CELL_TRIES: u64 = 3000;
-
-/// How many tries there are for each unit at each step.
-const UNIT_TRIES: u64 = 32;
-
-/// How many more tries with units there are at each step.
-const MORE_UNIT_TRIES: u64 = 2000;
-
-/// How many tries there are for each cell when all is cold.
-const LAST_TRIES: u64 = 4;
-
-/// By how many tiles a try with cells may lengthen the wires at first, in parts of 256.
-const CELL_HEAT: u64 = 4 * 256;
-
-/// By how many tiles a try with a unit may lengthen the wires at first, in parts of 256, for each column and each row of sites.
-const UNIT_HEAT: u64 = 2 * 256;
 
 /// Cells that change places within clusters, and units on sites.
 #[derive(Drop)]
@@ -154,51 +125,49 @@ impl<'a> Search<'a> {
         }
     }
 
-    // Measures the ways, once few enough steps are left, and finds the connections that want to be short.
-    fn find_pulls(&mut self, left: u64) {
-        if left <= PULLED_STEPS {
-            let state = &mut self.state;
-            self.ways
-                .find_pulls(&state.seats, state.cells, &mut state.pulls);
-        }
+    // Measures the ways, and finds the connections that want to be short.
+    fn find_pulls(&mut self) {
+        let state = &mut self.state;
+        self.ways
+            .find_pulls(&state.seats, state.cells, &mut state.pulls);
     }
 
-    // The tries of a step, cells and units by turns; so many steps are left.
-    fn step(&mut self, left: u64, words: &mut Pcg32) {
-        let cells = (self.movers.list.len() as u64).saturating_mul(CELL_TRIES);
-        let units = (self.state.units.list.len() as u64).saturating_mul(UNIT_TRIES);
+    // The tries of a step, cells and units by turns.
+    fn step(&mut self, schedule: Schedule, step: Step, words: &mut Pcg32) {
         let extent = self.state.floor.extent;
-        let reach = (extent.saturating_mul(left) / (STEPS * 4)).clamp(1, 63) as u8;
-        let cell_heat = CELL_HEAT.saturating_mul(left.saturating_mul(left)) / (STEPS * STEPS);
-        let unit_heat = extent
-            .saturating_mul(UNIT_HEAT)
-            .saturating_mul(left.saturating_mul(left))
-            / (STEPS * STEPS);
-        self.find_pulls(left);
+        let reach = step.reach(extent);
+        if step.pulls() {
+            self.find_pulls();
+        }
         for turn in 0..TURNS {
             self.middles.note(&self.state);
-            self.shake_cells(
-                cells.saturating_add(MORE_CELL_TRIES) / TURNS,
-                cell_heat,
-                reach,
-                words,
-            );
+            self.shake_cells(schedule.cell_tries(), step.cell_heat(), reach, words);
             self.state.note_bundles();
             self.shake_units(
-                units.saturating_add(MORE_UNIT_TRIES) / TURNS,
-                unit_heat,
+                schedule.unit_tries(),
+                step.unit_heat(extent),
                 reach.max(2),
                 words,
             );
         }
     }
 
+    // How many steps and tries there are.
+    fn schedule(&self) -> Schedule {
+        Schedule {
+            cells: self.state.cells.len() as u64,
+            movers: self.movers.list.len() as u64,
+            units: self.state.units.list.len() as u64,
+        }
+    }
+
     /// Tries at a falling heat, and some when all is cold. Their number is fixed before the first.
     pub fn anneal(&mut self, words: &mut Pcg32) {
-        for step in 0..STEPS {
-            self.step(STEPS - step, words);
+        let schedule = self.schedule();
+        let steps = schedule.steps();
+        for step in 0..steps {
+            self.step(schedule, Step { left: steps - step }, words);
         }
-        let count = self.movers.list.len() as u64;
-        self.shake_cells(count.saturating_mul(LAST_TRIES), 0, 1, words);
+        self.shake_cells(schedule.last_tries(), 0, 1, words);
     }
 }

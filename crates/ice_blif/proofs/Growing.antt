@@ -5,19 +5,23 @@ use Rattle.ice_base.specs.Lists.{number_of_name}
 use Rattle.ice_base.specs.declared.number.SignalNo.{SignalNo}
 use Rattle.ice_net.specs.declared.port.Way.{Way}
 use Rattle.ice_net.specs.declared.port.Way.TheVariants.{Input, Output}
-use Rattle.ice_net.specs.Kinds.{ins_count}
 use Rattle.ice_net.specs.NetlistData.{NetlistData}
 use Rattle.ice_net.specs.Ways.{way_of}
 use Rattle.ice_net.proofs.NetlistLaws.{names_grow}
 use Rattle.ice_blif.specs.declared.fault.BlifFault.{BlifFault}
 use Rattle.ice_blif.specs.declared.fault.BlifFault.TheVariants.{NoModel, SecondModel, UnknownDirective, PortTwice, TooWide, TooMany}
 use Rattle.ice_blif.specs.JoinedLines.{FilledLine, joined, filled, last_number}
-use Rattle.ice_blif.specs.State.{LastCell, Nothing, Gate, Rows, named, signal_of, with_kind, finished}
+use Rattle.ice_blif.specs.State.{LastCell, Nothing, Gate, Rows, named, signal_of, with_kind, finished, Memory}
 use Rattle.ice_blif.specs.Reading.{NetReading, Connections}
-use Rattle.ice_blif.specs.Cells.{◌>>=◌, cover_row_says, kind_says, param_says, count_of, IsWithin, IsRawWithin}
-use Rattle.ice_blif.specs.Grammar.{was_named, with_named_port, port_says, ports_say, no_wiring, is_missing, after_actual, connect_at, connect_by, equals_at, connection_says, connections_say, cell_of, with_last, without_rows, gate_of_kind, gate_says, cover_signals, new_cover, cover_of, names_say, row_line, row_or_fault, port_directive_says, param_directive_says, directive_says, within_limits, no_limits, line_says, after_end, ended, model_says, empty_reader, lines_say, text_says}
+use Rattle.ice_blif.specs.Cells.{◌>>=◌, cover_row_says, kind_says, param_says, count_of, IsWithin, IsRawWithin, memory_says}
+use Rattle.ice_blif.specs.Grammar.{was_named, with_named_port, port_says, ports_say, no_wiring, is_missing, after_actual, connect_at, connect_by, equals_at, connection_says, connections_say, cell_of, with_last, without_rows, gate_of_kind, gate_says, cover_signals, new_cover, cover_of, names_say, row_line, row_or_fault, port_directive_says, param_directive_says, directive_says, within_limits, no_limits, line_says, after_end, ended, model_says, empty_reader, lines_say, text_says, ram_of_word}
+use Rattle.ice_ram_words.specs.declared.kind.Edges.{Edges}
+use Rattle.ice_ram_words.specs.Words.{edges_of}
 use Rattle.ice_blif.specs.declared.kind.GateKind.{GateKind}
-use Rattle.ice_blif.specs.Gates.{gate_kind_of, gate_place}
+use Rattle.ice_blif.specs.declared.kind.Formals.{Formals}
+use Rattle.ice_blif.specs.declared.kind.Formals.TheVariants.{OfGate, OfRam}
+use Rattle.ice_blif.specs.Gates.{gate_kind_of}
+use Rattle.ice_blif.specs.Formals.{formal_place, formal_ins}
 use Rattle.ice_blif.proofs.Kept.{bind_keeps, either, any_ok, weaker, bound}
 use Rattle.ice_blif.proofs.OpenCells.{finished_names, finished_count, finished_within}
 
@@ -57,19 +61,19 @@ actual_grows n output actual = by (is_missing output actual)
     by true = net_same n
     by false = named_grows n actual
 
-connect_at_grows : (line : ℕ) (gate : GateKind) (n : NetlistData) (wiring : Connections) (actual : List ℕ) (place : Option ℕ) → IfOk (connect_at line gate n wiring actual place) (GrowsBeside {X = Connections} n)
-connect_at_grows line gate n wiring actual None = tt
-connect_at_grows line gate n wiring actual (Some place) = actual_grows n (nat_le (ins_count gate.kind) place) actual
+connect_at_grows : (line : ℕ) (formals : Formals) (n : NetlistData) (wiring : Connections) (actual : List ℕ) (place : Option ℕ) → IfOk (connect_at line formals n wiring actual place) (GrowsBeside {X = Connections} n)
+connect_at_grows line formals n wiring actual None = tt
+connect_at_grows line formals n wiring actual (Some place) = actual_grows n (nat_le (formal_ins formals) place) actual
 
-connect_grows : (line : ℕ) (gate : GateKind) (n : NetlistData) (wiring : Connections) (word : List ℕ) (at : Option ℕ) → IfOk (connect_by line gate n wiring word at) (GrowsBeside {X = Connections} n)
-connect_grows line gate n wiring word None = tt
-connect_grows line gate n wiring word (Some at) = connect_at_grows line gate n wiring (drop (at + 1) word) (gate_place gate (take at word))
+connect_grows : (line : ℕ) (formals : Formals) (n : NetlistData) (wiring : Connections) (word : List ℕ) (at : Option ℕ) → IfOk (connect_by line formals n wiring word at) (GrowsBeside {X = Connections} n)
+connect_grows line formals n wiring word None = tt
+connect_grows line formals n wiring word (Some at) = connect_at_grows line formals n wiring (drop (at + 1) word) (formal_place formals (take at word))
 
-connections_grow : (line : ℕ) (gate : GateKind) (n : NetlistData) (wiring : Connections) (words : List (List ℕ)) → IfOk (connections_say line gate n wiring words) (GrowsBeside {X = Connections} n)
-connections_grow line gate n wiring [] = either (GrowsBeside {X = Connections} n) wiring.twice (Err (PortTwice line)) (Ok (n, wiring)) tt (net_same n)
-connections_grow line gate n wiring (w ∷ ws) =
-    bind_keeps (GrowsBeside {X = Connections} n) (GrowsBeside {X = Connections} n) (connection_says line gate n wiring w) (λ c. connections_say line gate c.0 c.1 ws) (connect_grows line gate n wiring w (equals_at w))
-    (λ c g. weaker (GrowsBeside {X = Connections} c.0) (GrowsBeside {X = Connections} n) (connections_say line gate c.0 c.1 ws) (λ d h. net_then n c.0 g d.0 h) (connections_grow line gate c.0 c.1 ws))
+connections_grow : (line : ℕ) (formals : Formals) (n : NetlistData) (wiring : Connections) (words : List (List ℕ)) → IfOk (connections_say line formals n wiring words) (GrowsBeside {X = Connections} n)
+connections_grow line formals n wiring [] = either (GrowsBeside {X = Connections} n) wiring.twice (Err (PortTwice line)) (Ok (n, wiring)) tt (net_same n)
+connections_grow line formals n wiring (w ∷ ws) =
+    bind_keeps (GrowsBeside {X = Connections} n) (GrowsBeside {X = Connections} n) (connection_says line formals n wiring w) (λ c. connections_say line formals c.0 c.1 ws) (connect_grows line formals n wiring w (equals_at w))
+    (λ c g. weaker (GrowsBeside {X = Connections} c.0) (GrowsBeside {X = Connections} n) (connections_say line formals c.0 c.1 ws) (λ d h. net_then n c.0 g d.0 h) (connections_grow line formals c.0 c.1 ws))
 
 cover_signals_grow : (line : ℕ) (n : NetlistData) (signals : List (Option SignalNo)) (words : List (List ℕ)) → IfOk (cover_signals line n signals words) (GrowsBeside {X = List (Option SignalNo)} n)
 cover_signals_grow line n signals [] = net_same n
@@ -98,15 +102,21 @@ joined_grows r n now rows g = record {
   cells = let same = ap (λ cells. length cells) g.cells in omega (arith, finished_count n r.last, same);
 }
 
-gate_of_kind_grows : (line : ℕ) (r : NetReading) (words : List (List ℕ)) (gate : Option GateKind) → IfOk (gate_of_kind line r words gate) (Grows r)
-gate_of_kind_grows line r words None = tt
-gate_of_kind_grows line r words (Some gate) =
-    bind_keeps (GrowsBeside {X = Connections} r.netlist) (Grows r) (connections_say line gate r.netlist no_wiring words) (λ c. Ok (with_last c.0 r.last (Gate (cell_of line gate c.1)) false))
-    (connections_grow line gate r.netlist no_wiring words) (λ c g. joined_grows r c.0 (Gate (cell_of line gate c.1)) false g)
+ram_grows : (line : ℕ) (r : NetReading) (words : List (List ℕ)) (edges : Option Edges) → IfOk (ram_of_word line r words edges) (Grows r)
+ram_grows line r words None = tt
+ram_grows line r words (Some edges) =
+    bind_keeps (GrowsBeside {X = Connections} r.netlist) (Grows r) (connections_say line (OfRam edges) r.netlist no_wiring words) (λ c. Ok (with_last c.0 r.last Memory false))
+    (connections_grow line (OfRam edges) r.netlist no_wiring words) (λ c g. joined_grows r c.0 Memory false g)
+
+gate_of_kind_grows : (line : ℕ) (r : NetReading) (word : List ℕ) (words : List (List ℕ)) (gate : Option GateKind) → IfOk (gate_of_kind line r word words gate) (Grows r)
+gate_of_kind_grows line r word words None = ram_grows line r words (edges_of word)
+gate_of_kind_grows line r word words (Some gate) =
+    bind_keeps (GrowsBeside {X = Connections} r.netlist) (Grows r) (connections_say line (OfGate gate) r.netlist no_wiring words) (λ c. Ok (with_last c.0 r.last (Gate (cell_of line gate c.1)) false))
+    (connections_grow line (OfGate gate) r.netlist no_wiring words) (λ c g. joined_grows r c.0 (Gate (cell_of line gate c.1)) false g)
 
 gate_grows : (line : ℕ) (r : NetReading) (words : List (List ℕ)) → IfOk (gate_says line r words) (Grows r)
 gate_grows line r [] = tt
-gate_grows line r (w ∷ ws) = gate_of_kind_grows line r ws (gate_kind_of w)
+gate_grows line r (w ∷ ws) = gate_of_kind_grows line r w ws (gate_kind_of w)
 
 cover_grows : (line : ℕ) (r : NetReading) (n : NetlistData) (signals : List (Option SignalNo)) → NetGrows r.netlist n → IfOk (cover_of line r n signals) (Grows r)
 cover_grows line r n [] g = tt
@@ -124,6 +134,7 @@ counted r now rows e = record { names = omega arith; cells = omega (arith, e) }
 row_line_grows : (line : ℕ) (r : NetReading) (last : LastCell) (first : List ℕ) (others : List (List ℕ)) → r.last ≡ last → IfOk (row_line line r last first others) (Grows r)
 row_line_grows line r Nothing first others e = tt
 row_line_grows line r (Gate cell) first others e = tt
+row_line_grows line r Memory first others e = tt
 row_line_grows line r (Rows cover) first others e =
     bind_keeps (λ c. Unit {0}) (Grows r) (cover_row_says line cover first others) (λ c. Ok (record { netlist = r.netlist; last = Rows c; rows = true })) (any_ok (cover_row_says line cover first others))
     (λ c kept. counted r (Rows c) true (sym (ap count_of e)))
@@ -141,6 +152,8 @@ param_counts line last [] = refl
 param_counts line Nothing (name ∷ values) = refl
 param_counts line (Gate cell) (name ∷ values) =
     bind_keeps (λ kind. Unit {0}) (λ now. count_of now ≡ 1) (kind_says line cell.kind name values) (λ kind. Ok (Gate (with_kind cell kind))) (any_ok (kind_says line cell.kind name values)) (λ kind kept. refl)
+param_counts line Memory (name ∷ values) =
+    bind_keeps (λ good. Unit {0}) (λ now. count_of now ≡ 0) (memory_says line name values) (λ good. Ok Memory) (any_ok (memory_says line name values)) (λ good kept. refl)
 param_counts line (Rows cover) (name ∷ values) = refl
 
 param_directive_grows : (line : ℕ) (r : NetReading) (words : List (List ℕ)) → IfOk (param_directive_says line r words) (Grows r)

@@ -6,7 +6,7 @@ use Rattle.std.proofs.Math.Nat.{mod-lt}
 use Rattle.std.proofs.lemmas.List.Elements.{All-weaker}
 use Rattle.ice_base.specs.declared.number.SignalNo.{SignalNo}
 use Rattle.ice_net.specs.Formed.{IsBelow, IsPresent, IsFormedCell}
-use Rattle.ice_blif.specs.State.{OpenCover, LastCell, Nothing, Gate, Rows, cover_cell, finished}
+use Rattle.ice_blif.specs.State.{OpenCover, LastCell, Nothing, Gate, Rows, cover_cell, finished, Memory}
 use Rattle.ice_blif.specs.Reading.{NetReading}
 use Rattle.ice_blif.specs.Covers.{table_of}
 use Rattle.ice_net.specs.NetlistData.{NetlistData}
@@ -64,10 +64,12 @@ cover_read signals c h = record {
 pub finished_names : (n : NetlistData) (last : LastCell) → (finished n last).names ≡ n.names
 finished_names n Nothing = refl
 finished_names n (Gate cell) = refl
+finished_names n Memory = refl
 finished_names n (Rows cover) = refl
 
 finished_few : (n : NetlistData) (last : LastCell) → length (finished n last).cells ≤ length n.cells + 1
 finished_few n Nothing = omega arith
+finished_few n Memory = omega arith
 finished_few n (Gate cell) = omega (arith, length-append n.cells (cell ∷ []))
 finished_few n (Rows cover) = omega (arith, length-append n.cells (cover_cell cover ∷ []))
 
@@ -81,6 +83,7 @@ last_ready n before now rows few formed = record {
 
 pub finished_count : (n : NetlistData) (last : LastCell) → length (finished n last).cells ≡ length n.cells + count_of last
 finished_count n Nothing = omega arith
+finished_count n Memory = omega arith
 finished_count n (Gate cell) = length-append n.cells (cell ∷ [])
 finished_count n (Rows cover) = length-append n.cells (cover_cell cover ∷ [])
 

@@ -9,7 +9,7 @@ use Rattle.ice_net.specs.declared.kind.CellKind.TheVariants.{Lut, Cover, Carry, 
 use Rattle.ice_net.specs.Kinds.{enable_names, reset_names, ins_count, outs_count}
 use Rattle.ice_net.specs.Formed.{IsBelow, IsPresent, IsFormedKind, IsGateKind}
 use Rattle.ice_net.proofs.NetlistLaws.{below_more, present_more, formed_more}
-use Rattle.ice_blif.specs.State.{LastCell, Nothing as nothing_last, Gate, Rows, own_cell}
+use Rattle.ice_blif.specs.State.{LastCell, Nothing as nothing_last, Gate, Rows, own_cell, Memory}
 use Rattle.ice_blif.specs.Reading.{Connections}
 use Rattle.ice_blif.specs.declared.kind.GateKind.{GateKind}
 use Rattle.ice_blif.specs.Gates.{gate_outs}
@@ -60,12 +60,12 @@ gate_outs_about gate = by gate.feeds_global
     by true = (omega arith, omega arith)
     by false = (omega arith, omega arith)
 
--- eleven places are enough for the ports of a gate
-pub gate_ports_fit : (gate : GateKind) → IsGateKind gate.kind → ins_count gate.kind + gate_outs gate ≤ 11
+-- the places of connections are enough for the ports of a gate
+pub gate_ports_fit : (gate : GateKind) → IsGateKind gate.kind → ins_count gate.kind + gate_outs gate ≤ 76
 gate_ports_fit gate h = omega (arith, gate_fits gate.kind h, (gate_outs_about gate).1)
 
 -- the cell of a gate with its connections is well formed
-pub gate_formed : (signals line : ℕ) (gate : GateKind) (wiring : Connections) → IsGateKind gate.kind → length wiring.signals ≡ 11 → All (IsBelow signals) wiring.signals
+pub gate_formed : (signals line : ℕ) (gate : GateKind) (wiring : Connections) → IsGateKind gate.kind → length wiring.signals ≡ 76 → All (IsBelow signals) wiring.signals
     → IsReadCell signals (cell_of line gate wiring)
 gate_formed signals line gate wiring h long below =
     let kind : CellKind = gate.kind in
@@ -89,6 +89,7 @@ gate_formed signals line gate wiring h long below =
 pub last_formed_more : (m n : ℕ) (last : LastCell) → m ≤ n → IsFormedLast m last → IsFormedLast n last
 last_formed_more m n nothing_last le h = tt
 last_formed_more m n (Gate cell) le h = record { own = formed_more m n le (own_cell cell) h.own; outs_below = all_below_more m n cell.outs le h.outs_below }
+last_formed_more m n Memory le h = tt
 last_formed_more m n (Rows c) le h = record {
   narrow = h.narrow;
   single = h.single;

@@ -1,5 +1,5 @@
 -- What rows and parameters add to the cell that was made last, or their fault; what a reader of cells keeps.
-use Rattle.std.specs.Prelude.{◌≡◌, ℕ, ◌+◌, ◌^◌, ◌≤◌, Bool, ◌==◌, List, [], ◌∷◌, length, Option, Some, None, Result, Ok, Err, if◌then◌else◌, codes, bytes_eq, All, true, false, ◌&&◌, ◌||◌, not}
+use Rattle.std.specs.Prelude.{◌≡◌, ℕ, ◌+◌, ◌^◌, ◌≤◌, Bool, ◌==◌, List, [], ◌∷◌, length, Option, Some, None, Result, Ok, Err, if◌then◌else◌, codes, bytes_eq, All, true, false, ◌&&◌, ◌||◌, not, is_some}
 use Rattle.ice_net.specs.declared.cell.Cell.{Cell}
 use Rattle.ice_net.specs.declared.kind.CellKind.{CellKind}
 use Rattle.ice_net.specs.declared.kind.CellKind.TheVariants.{Lut, PadCell}
@@ -7,11 +7,12 @@ use Rattle.ice_net.specs.NetlistData.{NetlistData}
 use Rattle.ice_net.specs.Formed.{IsBelow, IsFormedCell, IsPresent}
 use Rattle.ice_blif.specs.declared.fault.BlifFault.{BlifFault}
 use Rattle.ice_blif.specs.declared.fault.BlifFault.TheVariants.{BadCover}
-use Rattle.ice_blif.specs.State.{OpenCover, LastCell, Nothing, Gate, Rows, own_cell, with_cover_row, with_kind}
+use Rattle.ice_blif.specs.State.{OpenCover, LastCell, Nothing, Gate, Rows, own_cell, with_cover_row, with_kind, Memory}
 use Rattle.ice_blif.specs.Reading.{NetReading}
 use Rattle.ice_blif.specs.Covers.{level_of_word}
-use Rattle.ice_blif.specs.Parameters.{bits_say, standard_says}
+use Rattle.ice_blif.specs.Parameters.{bits_say, standard_says, contents_say, file_says}
 use Rattle.std.specs.List.{list_all}
+use Rattle.ice_ram_words.specs.Words.{row_of}
 
 infixl 10 ◌>>=◌
 -- a value goes on, and the first fault stays
@@ -76,15 +77,25 @@ kind_says line (Lut table) name values = lut_says line table name values
 kind_says line (PadCell pin_type pullup) name values = pad_says line pin_type pullup name values
 kind_says line kind name values = Ok kind
 
+-- a parameter of a RAM: its contents, the modes of its ports, and the file of contents, which it must not have
+abbrev pub memory_says : ℕ → List ℕ → List (List ℕ) → Result Bool BlifFault
+memory_says line name values =
+    if is_some (row_of name) then contents_say line values
+    else (if bytes_eq name (codes "READ_MODE") || bytes_eq name (codes "WRITE_MODE") then bits_say line (2 ^ 2) values >>= (λ mode. Ok true)
+    else (if bytes_eq name (codes "INIT_FILE") then file_says line values
+    else Ok true))
+
 -- the cell made last with the parameter of a line; parameters of covers, and before any cell, are read over
 abbrev pub param_says : ℕ → LastCell → List (List ℕ) → Result LastCell BlifFault
 param_says line last [] = Ok last
 param_says line (Gate cell) (name ∷ values) = kind_says line cell.kind name values >>= (λ kind. Ok (Gate (with_kind cell kind)))
+param_says line Memory (name ∷ values) = memory_says line name values >>= (λ good. Ok Memory)
 param_says line last (name ∷ values) = Ok last
 
 -- how many cells the last is
 abbrev pub count_of : LastCell → ℕ
 count_of Nothing = 0
+count_of Memory = 0
 count_of last = 1
 
 -- a cover over so many signals
@@ -110,6 +121,7 @@ pub record IsPad (signals : ℕ) (cell : Cell) : Type 0 where
 abbrev pub IsFormedLast : ℕ → LastCell → Type 0
 IsFormedLast signals Nothing = Unit {0}
 IsFormedLast signals (Gate cell) = IsReadCell signals cell
+IsFormedLast signals Memory = Unit {0}
 IsFormedLast signals (Rows cover) = IsOpenCover signals cover
 
 -- at most 65,534 signals, and 1,048,576 lines that make a cell with that of the last

@@ -1,5 +1,5 @@
 -- The netlist of a text, or the first fault in it.
-use Rattle.std.specs.Prelude.{◌≡◌, ◌≤◌, ℕ, ◌+◌, ◌-◌, Bool, true, false, ◌||◌, ◌==◌, List, [], ◌∷◌, ◌++◌, length, take, drop, position, nat_le, nat_lt, slice_set, slice_index_or, Option, Some, None, Result, Ok, Err, if◌then◌else◌, codes, bytes_eq}
+use Rattle.std.specs.Prelude.{◌≡◌, ◌≤◌, ℕ, ◌+◌, ◌-◌, Bool, true, false, ◌||◌, ◌==◌, List, [], ◌∷◌, ◌++◌, length, take, drop, position, replicate, nat_le, nat_lt, slice_set, slice_index_or, Option, Some, None, Result, Ok, Err, if◌then◌else◌, codes, bytes_eq}
 use Rattle.ice_base.specs.Text.{lines, numbered, begins_with}
 use Rattle.ice_base.specs.Lists.{with_name, number_of_name}
 use Rattle.ice_base.specs.declared.number.SignalNo.{SignalNo}
@@ -11,14 +11,19 @@ use Rattle.ice_net.specs.NetlistData.{NetlistData, empty_netlist, with_port}
 use Rattle.ice_net.specs.Ways.{way_of}
 use Rattle.ice_blif.specs.declared.fault.BlifFault.{BlifFault}
 use Rattle.ice_blif.specs.declared.fault.BlifFault.TheVariants.{NoModel, SecondModel, UnknownDirective, UnknownCell, UnknownPort, PortTwice, BadCover, TooWide, NoEnd, TooMany}
-use Rattle.ice_blif.specs.State.{OpenCover, LastCell, Nothing, Gate, Rows, named, signal_of, finished}
+use Rattle.ice_blif.specs.State.{OpenCover, LastCell, Nothing, Gate, Rows, named, signal_of, finished, Memory}
 use Rattle.ice_blif.specs.Reading.{NetReading, Connections}
 use Rattle.ice_blif.specs.JoinedLines.{FilledLine, joined, filled, last_number}
 use Rattle.ice_blif.specs.Cells.{◌>>=◌, cover_row_says, param_says, count_of}
 use Rattle.ice_blif.specs.declared.kind.GateKind.{GateKind}
-use Rattle.ice_blif.specs.Gates.{gate_kind_of, gate_place, gate_outs}
+use Rattle.ice_blif.specs.Gates.{gate_kind_of, gate_outs}
 use Rattle.ice_blif.specs.Registers.{taken_apart}
 use Rattle.ice_blif.specs.FewSignals.{taken_apart_says}
+use Rattle.ice_ram_words.specs.declared.kind.Edges.{Edges}
+use Rattle.ice_ram_words.specs.Words.{edges_of}
+use Rattle.ice_blif.specs.declared.kind.Formals.{Formals}
+use Rattle.ice_blif.specs.declared.kind.Formals.TheVariants.{OfGate, OfRam}
+use Rattle.ice_blif.specs.Formals.{formal_place, formal_ins}
 
 -- ---- ports
 -- a signal was named as a port of this way
@@ -42,11 +47,11 @@ ports_say line way n [] = Ok n
 ports_say line way n (name ∷ names) = port_says line way n name >>= (λ m. ports_say line way m names)
 
 -- ---- gates
--- no port is connected
+-- no port is connected; a RAM has the most ports, 76
 abbrev pub no_wiring : Connections
 no_wiring = record {
-  taken = false ∷ false ∷ false ∷ false ∷ false ∷ false ∷ false ∷ false ∷ false ∷ false ∷ false ∷ [];
-  signals = None ∷ None ∷ None ∷ None ∷ None ∷ None ∷ None ∷ None ∷ None ∷ None ∷ None ∷ [];
+  taken = replicate 76 false;
+  signals = replicate 76 None;
   twice = false;
 }
 
@@ -72,26 +77,26 @@ actual_signal n output actual = if is_missing output actual then None else Some 
 abbrev pub connect : NetlistData → Connections → ℕ → Bool → List ℕ → NetlistData × Connections
 connect n wiring place output actual = (after_actual n output actual, wired wiring place (actual_signal n output actual))
 
-abbrev pub connect_at : ℕ → GateKind → NetlistData → Connections → List ℕ → Option ℕ → Result (NetlistData × Connections) BlifFault
-connect_at line gate n wiring actual None = Err (UnknownPort line)
-connect_at line gate n wiring actual (Some place) = Ok (connect n wiring place (nat_le (ins_count gate.kind) place) actual)
+abbrev pub connect_at : ℕ → Formals → NetlistData → Connections → List ℕ → Option ℕ → Result (NetlistData × Connections) BlifFault
+connect_at line formals n wiring actual None = Err (UnknownPort line)
+connect_at line formals n wiring actual (Some place) = Ok (connect n wiring place (nat_le (formal_ins formals) place) actual)
 
-abbrev pub connect_by : ℕ → GateKind → NetlistData → Connections → List ℕ → Option ℕ → Result (NetlistData × Connections) BlifFault
-connect_by line gate n wiring word None = Err (UnknownPort line)
-connect_by line gate n wiring word (Some at) = connect_at line gate n wiring (drop (at + 1) word) (gate_place gate (take at word))
+abbrev pub connect_by : ℕ → Formals → NetlistData → Connections → List ℕ → Option ℕ → Result (NetlistData × Connections) BlifFault
+connect_by line formals n wiring word None = Err (UnknownPort line)
+connect_by line formals n wiring word (Some at) = connect_at line formals n wiring (drop (at + 1) word) (formal_place formals (take at word))
 
 -- the place of the first `=` (61) of a word
 unfoldable pub equals_at : List ℕ → Option ℕ
 equals_at word = position (λ b. b == 61) word
 
 -- one connection, FORMAL=ACTUAL; the formal ends at the first `=`
-abbrev pub connection_says : ℕ → GateKind → NetlistData → Connections → List ℕ → Result (NetlistData × Connections) BlifFault
-connection_says line gate n wiring word = connect_by line gate n wiring word (equals_at word)
+abbrev pub connection_says : ℕ → Formals → NetlistData → Connections → List ℕ → Result (NetlistData × Connections) BlifFault
+connection_says line formals n wiring word = connect_by line formals n wiring word (equals_at word)
 
 -- all connections of a line. That a port is named twice is found after its unknown ports
-abbrev pub connections_say : ℕ → GateKind → NetlistData → Connections → List (List ℕ) → Result (NetlistData × Connections) BlifFault
-connections_say line gate n wiring [] = if wiring.twice then Err (PortTwice line) else Ok (n, wiring)
-connections_say line gate n wiring (w ∷ ws) = connection_says line gate n wiring w >>= (λ c. connections_say line gate c.0 c.1 ws)
+abbrev pub connections_say : ℕ → Formals → NetlistData → Connections → List (List ℕ) → Result (NetlistData × Connections) BlifFault
+connections_say line formals n wiring [] = if wiring.twice then Err (PortTwice line) else Ok (n, wiring)
+connections_say line formals n wiring (w ∷ ws) = connection_says line formals n wiring w >>= (λ c. connections_say line formals c.0 c.1 ws)
 
 -- the cell of a gate with its connections; one that feeds a global has the global's output behind its own
 abbrev pub cell_of : ℕ → GateKind → Connections → Cell
@@ -106,14 +111,22 @@ cell_of line gate wiring = record {
 abbrev pub with_last : NetlistData → LastCell → LastCell → Bool → NetReading
 with_last n before now rows = record { netlist = finished n before; last = now; rows = rows }
 
-abbrev pub gate_of_kind : ℕ → NetReading → List (List ℕ) → Option GateKind → Result NetReading BlifFault
-gate_of_kind line r ws None = Err (UnknownCell line)
-gate_of_kind line r ws (Some gate) = connections_say line gate r.netlist no_wiring ws >>= (λ c. Ok (with_last c.0 r.last (Gate (cell_of line gate c.1)) false))
+-- a RAM makes no cell here: only its signals appear. What it is, is said where RAMs are read
+abbrev pub ram_says : ℕ → NetReading → List (List ℕ) → Edges → Result NetReading BlifFault
+ram_says line r ws edges = connections_say line (OfRam edges) r.netlist no_wiring ws >>= (λ c. Ok (with_last c.0 r.last Memory false))
+
+abbrev pub ram_of_word : ℕ → NetReading → List (List ℕ) → Option Edges → Result NetReading BlifFault
+ram_of_word line r ws None = Err (UnknownCell line)
+ram_of_word line r ws (Some edges) = ram_says line r ws edges
+
+abbrev pub gate_of_kind : ℕ → NetReading → List ℕ → List (List ℕ) → Option GateKind → Result NetReading BlifFault
+gate_of_kind line r w ws None = ram_of_word line r ws (edges_of w)
+gate_of_kind line r w ws (Some gate) = connections_say line (OfGate gate) r.netlist no_wiring ws >>= (λ c. Ok (with_last c.0 r.last (Gate (cell_of line gate c.1)) false))
 
 -- `.gate KIND F=A ..` and `.subckt KIND F=A ..`
 abbrev pub gate_says : ℕ → NetReading → List (List ℕ) → Result NetReading BlifFault
 gate_says line r [] = Err (UnknownCell line)
-gate_says line r (w ∷ ws) = gate_of_kind line r ws (gate_kind_of w)
+gate_says line r (w ∷ ws) = gate_of_kind line r w ws (gate_kind_of w)
 
 -- ---- covers
 -- the signals of a cover: at most four inputs and an output
@@ -140,8 +153,10 @@ abbrev pub without_rows : NetlistData → LastCell → NetReading
 without_rows n last = record { netlist = n; last = last; rows = false }
 
 abbrev pub row_line : ℕ → NetReading → LastCell → List ℕ → List (List ℕ) → Result NetReading BlifFault
+row_line line r Nothing first others = Err (UnknownDirective line)
+row_line line r (Gate cell) first others = Err (UnknownDirective line)
+row_line line r Memory first others = Err (UnknownDirective line)
 row_line line r (Rows cover) first others = cover_row_says line cover first others >>= (λ c. Ok (record { netlist = r.netlist; last = Rows c; rows = true }))
-row_line line r last first others = Err (UnknownDirective line)
 
 -- a line whose first word begins with no dot: a row, where one may stand
 abbrev pub row_or_fault : ℕ → NetReading → List ℕ → List (List ℕ) → Result NetReading BlifFault
@@ -178,6 +193,16 @@ within_limits line r =
 abbrev pub no_limits : ℕ → NetReading → Result NetReading BlifFault
 no_limits line r = Ok r
 
+-- no limits, but no RAM either
+abbrev pub unless_ram : ℕ → NetReading → LastCell → Result NetReading BlifFault
+unless_ram line r Nothing = Ok r
+unless_ram line r (Gate cell) = Ok r
+unless_ram line r Memory = Err (UnknownCell line)
+unless_ram line r (Rows cover) = Ok r
+
+abbrev pub no_rams : ℕ → NetReading → Result NetReading BlifFault
+no_rams line r = unless_ram line r r.last
+
 -- a line of the model; `.` is 46. That a line goes beyond the limits is found after its other faults
 abbrev pub line_says : (ℕ → NetReading → Result NetReading BlifFault) → FilledLine → NetReading → Result NetReading BlifFault
 line_says limits l r = (if begins_with 46 l.first then directive_says l.number r l.first l.others else row_or_fault l.number r l.first l.others) >>= limits l.number
@@ -210,13 +235,17 @@ lines_say limits last (l ∷ ls) = if bytes_eq l.first (codes ".model") then mod
 abbrev pub text_says : (ℕ → NetReading → Result NetReading BlifFault) → List ℕ → Result NetlistData BlifFault
 text_says limits text = lines_say limits (last_number 0 (numbered 1 (lines text))) (filled (joined (numbered 1 (lines text))))
 
--- the text has this netlist, whatever its size
+-- the text has this netlist, whatever its size; its RAMs are left out
 abbrev pub HasNetlist : List ℕ → NetlistData → Type 0
 HasNetlist text n = (raw : NetlistData) × (text_says no_limits text ≡ Ok raw) × (n ≡ taken_apart raw)
 
 abbrev pub lines_made : Result NetlistData BlifFault → ℕ
 lines_made (Ok raw) = length raw.cells
 lines_made (Err fault) = 0
+
+-- the text has this netlist, whatever its size, and no RAM
+abbrev pub HasNetlistAlone : List ℕ → NetlistData → Type 0
+HasNetlistAlone text n = (raw : NetlistData) × (text_says no_rams text ≡ Ok raw) × (n ≡ taken_apart raw)
 
 -- how many lines of a text make a cell, where it has a netlist
 abbrev pub cell_lines : List ℕ → ℕ
@@ -229,7 +258,7 @@ pub record IsWithinLimits (text : List ℕ) (n : NetlistData) : Type 0 where
   pub lines : cell_lines text ≤ 1048576
   pub cells : length n.cells ≤ 3145728
 
--- the netlist of a text, or its first fault: of several lines with one the first, and of a line with several the one that comes
+-- the netlist of a text, its RAMs left out, or its first fault: of several lines with one the first, and of a line with several the one that comes
 -- first in the order of the faults. That hidden signals are too many is found after all others
 abbrev pub netlist_of : List ℕ → Result NetlistData BlifFault
 netlist_of text = text_says within_limits text >>= taken_apart_says

@@ -7,6 +7,7 @@ pub mod Cells
 pub mod Registers
 pub mod FewSignals
 pub mod Gates
+pub mod Formals
 pub mod Parameters
 pub mod Grammar
 pub mod FirstFault

@@ -1,5 +1,6 @@
 -- The values of gates' parameters, or their faults.
 use Rattle.std.specs.Prelude.{ℕ, Bool, true, List, Option, Some, None, if◌then◌else◌, codes, bytes_eq, ◌≡◌, ◌&&◌, ◌||◌, ◌==◌, [], ◌∷◌, length, Result, Ok, Err, nat_le, nat_lt}
+use Rattle.std.specs.List.{list_all}
 use Rattle.ice_net.specs.declared.kind.CellKind.{CellKind}
 use Rattle.ice_net.specs.Kinds.{outs_count, ins_count}
 use Rattle.ice_base.specs.declared.number.SignalNo.{SignalNo}
@@ -36,6 +37,19 @@ bits_say line limit values = Err (BadParam line)
 abbrev pub standard_says : ℕ → List (List ℕ) → Result Bool BlifFault
 standard_says line (value ∷ []) = if bytes_eq value (codes "\"SB_LVDS_INPUT\"") then Err (BadParam line) else Ok true
 standard_says line values = Err (BadParam line)
+
+-- the contents of sixteen words of a RAM: 1 to 256 digits
+abbrev pub is_contents : List ℕ → Bool
+is_contents word = nat_le 1 (length word) && nat_le (length word) 256 && list_all is_digit word
+
+abbrev pub contents_say : ℕ → List (List ℕ) → Result Bool BlifFault
+contents_say line (value ∷ []) = if is_contents value then Ok true else Err (BadParam line)
+contents_say line values = Err (BadParam line)
+
+-- INIT_FILE: one word, which names no file
+abbrev pub file_says : ℕ → List (List ℕ) → Result Bool BlifFault
+file_says line (value ∷ []) = if bytes_eq value (codes "\"\"") then Ok true else Err (BadParam line)
+file_says line values = Err (BadParam line)
 
 -- a kind with another parameter has the same ports, and is as well formed
 pub record KeepsForm (before now : CellKind) : Type 0 where

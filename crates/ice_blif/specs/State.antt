@@ -21,10 +21,12 @@ pub record OpenCover : Type 0 where
   -- the level that the rows so far give
   pub level : Option Bool
 
--- the cell that was made last: none, a gate, to which parameters belong, or a cover, to which rows belong
+-- the cell that was made last: none, a gate, to which parameters belong, a RAM, to which they belong too but which is no cell of the
+-- netlist, or a cover, to which rows belong
 pub data LastCell : Type 0 where
   Nothing : LastCell
   Gate : Cell → LastCell
+  Memory : LastCell
   Rows : OpenCover → LastCell
 
 -- the netlist after a name appears
@@ -53,6 +55,7 @@ with_cell n cell = record { names = n.names; ports = n.ports; cells = n.cells ++
 abbrev pub finished : NetlistData → LastCell → NetlistData
 finished n Nothing = n
 finished n (Gate cell) = with_cell n cell
+finished n Memory = n
 finished n (Rows cover) = with_cell n (cover_cell cover)
 
 -- a cell without outputs behind those of its kind

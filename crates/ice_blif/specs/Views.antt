@@ -8,7 +8,7 @@ use Rattle.ice_blif.specs.declared.reader.Last as lasts
 use Rattle.ice_blif.specs.declared.reader.Last.{Last}
 use Rattle.ice_blif.specs.declared.reader.Reader.{Reader}
 use Rattle.ice_blif.specs.declared.wiring.Wiring.{Wiring}
-use Rattle.ice_blif.specs.State.{OpenCover, LastCell, Nothing, Gate, Rows}
+use Rattle.ice_blif.specs.State.{OpenCover, LastCell, Nothing, Gate, Rows, Memory}
 use Rattle.ice_blif.specs.Reading.{NetReading, Connections}
 use Rattle.ice_blif.specs.JoinedLines.{FilledLine, joined, with_next, later_joined}
 
@@ -19,6 +19,7 @@ cover_view c = record { line = c.line; ins = c.ins; outs = c.outs; covered = c.c
 abbrev pub last_view : Last → LastCell
 last_view lasts.TheVariants.Nothing = Nothing
 last_view (lasts.TheVariants.Gate cell) = Gate cell
+last_view lasts.TheVariants.Memory = Memory
 last_view (lasts.TheVariants.Rows cover) = Rows (cover_view cover)
 
 abbrev pub reader_view : Reader → NetReading

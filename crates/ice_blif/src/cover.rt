@@ -14,6 +14,7 @@ use crate::cursor::Cursor;
 use crate::raw::RawNetlist;
 use crate::reader::{Cover, Last, MOST_CELL_LINES, Reader, join};
 use ice_base::SignalNo;
+use ice_lut::complement;
 use ice_net::Signals;
 use std::alloc::Global;
 
@@ -37,11 +38,12 @@ pub(crate) fn table_of(width: u8, level: Option<bool>, covered: u16) -> u16
     requires { width ≤ 4 }
     ensures { result ≡ table_of width level covered }
 {
-    let Some(level) = level else {
-        return 0;
+    let table = match level {
+        None => return 0,
+        Some(true) => covered,
+        Some(false) => complement(covered),
     };
-    let bits = if level { covered } else { u16::MAX - covered };
-    (u32::from(bits) % tables(width)) as u16
+    (u32::from(table) % tables(width)) as u16
 }
 
 // Whether a row has the levels of that number.

@@ -10,7 +10,7 @@ use ice_base::{LineIter, PlainWords, begins_with, lines_of, plain_words_of, word
 
 /// What is left of a text: the words of the joined line that is read, and the lines behind it.
 #[derive(Drop)]
-pub(crate) struct Cursor<'a> {
+pub struct Cursor<'a> {
     words: PlainWords<'a>,
     goes_on: bool,
     lines: LineIter<'a>,
@@ -18,9 +18,11 @@ pub(crate) struct Cursor<'a> {
 
 /// The number and the first word of a joined line.
 #[derive(Clone, Copy)]
-pub(crate) struct FirstWord<'a> {
-    pub(crate) line: u32,
-    pub(crate) word: &'a [u8],
+pub struct FirstWord<'a> {
+    /// The number of its first line, from 1.
+    pub line: u32,
+    /// Its first word.
+    pub word: &'a [u8],
 }
 
 fn is_blank(b: u8) -> bool
@@ -73,7 +75,7 @@ fn continued(line: &[u8]) -> Option<&[u8]>
 
 impl<'a> Cursor<'a> {
     /// At the start of a text.
-    pub(crate) fn new(text: &'a [u8]) -> Cursor<'a>
+    pub fn new(text: &'a [u8]) -> Cursor<'a>
         ensures { lines_left result ≡ joined (numbered 1 (lines text.now)) }
     {
         Cursor {
@@ -123,7 +125,7 @@ impl<'a> Cursor<'a> {
     }
 
     /// The next word of the joined line; None at its end.
-    pub(crate) fn next_word(&mut self) -> Option<&'a [u8]>
+    pub fn next_word(&mut self) -> Option<&'a [u8]>
         ensures word { IsNextWord (words_left self.old) result (words_left self.new) }
         ensures lines { lines_left self.new ≡ lines_left self.old }
     {
@@ -163,7 +165,7 @@ impl<'a> Cursor<'a> {
 
     /// Goes on to the next joined line that has a word, and gives that word with the line's number; None at the end of
     /// the text.
-    pub(crate) fn next_filled(&mut self) -> Option<FirstWord<'a>>
+    pub fn next_filled(&mut self) -> Option<FirstWord<'a>>
         ensures { IsFirstOf (filled (lines_left self.old)) result (words_left self.new)
             (filled (lines_left self.new)) }
     {

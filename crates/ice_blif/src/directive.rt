@@ -123,7 +123,7 @@ fn check_limits(reader: &Reader, line: u32) -> Result<(), BlifFault>
     }
     let cells = reader.netlist.cells_count();
     let last = match reader.last {
-        Last::Nothing => 0,
+        Last::Nothing | Last::Memory => 0,
         _ => 1,
     };
     if cells > MOST_CELL_LINES as usize - last {

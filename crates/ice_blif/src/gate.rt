@@ -4,21 +4,23 @@ ghost use Rattle.ice_net.specs.Formed.{IsBelow, IsGateKind};
 ghost use Rattle.ice_blif.specs.declared.fault.BlifFault.TheVariants.{NoMemory as out_of_memory};
 ghost use Rattle.ice_blif.specs.Answers.{Gives};
 ghost use Rattle.ice_blif.specs.Cells.{IsReadCell, IsReady};
-ghost use Rattle.ice_blif.specs.Grammar.{equals_at, is_missing, actual_signal, after_actual, connection_says, connections_say, no_wiring, cell_of, gate_says};
+ghost use Rattle.ice_blif.specs.Grammar.{equals_at, is_missing, actual_signal, after_actual, connection_says, connections_say, no_wiring, cell_of, ram_says, ram_of_word, gate_says};
+ghost use Rattle.ice_ram_words.specs.Words.{edges_of};
 ghost use Rattle.ice_blif.specs.Views.{reader_view, wiring_view, words_left, lines_left};
 
 use crate::BlifFault;
 use crate::cursor::Cursor;
-use crate::kind::GateKind;
+use crate::kind::{Formals, GateKind};
 use crate::raw::RawNetlist;
 use crate::reader::{Last, MOST_CELL_LINES, Reader, join};
 use crate::wiring::Wiring;
 use ice_base::SignalNo;
 use ice_net::{Cell, Signals};
+use ice_ram_words::{Edges, edges_named};
 use std::alloc::Global;
 
-// Whether an actual makes no appearance.
-fn is_missing(output: bool, actual: &[u8]) -> bool
+/// Whether an actual makes no appearance: it is empty, or it is `$undef` at an output.
+pub fn is_missing(output: bool, actual: &[u8]) -> bool
     ensures { result ≡ is_missing output actual.now }
 {
     actual.is_empty() || (output && actual == b"$undef".as_slice())
@@ -43,9 +45,9 @@ fn actual_signal(
     Ok(Some(signal))
 }
 
-// The place of the first `=` of a word.
+/// The place of the first `=` of a word, behind which the actual of a connection stands.
 #[tactic(auto, unfolding(crate::specs::Grammar::equals_at))]
-fn equals_at(word: &[u8]) -> Option<usize>
+pub fn equals_at(word: &[u8]) -> Option<usize>
     ensures place { result ≡ equals_at word.now }
     ensures within { IfSome result (λ at. at < length word.now) }
 {
@@ -58,12 +60,12 @@ fn connection(
     netlist: &mut RawNetlist,
     wiring: &mut Wiring,
     line: u32,
-    gate: GateKind,
+    formals: Formals,
     word: &[u8],
 ) -> Result<(), BlifFault>
     requires { All (IsBelow (length netlist.old.names)) wiring.old.signals }
     ensures connection { Gives (λ _. (netlist.new, wiring_view wiring.new)) result
-        (connection_says line gate netlist.old (wiring_view wiring.old) word.now) }
+        (connection_says line formals netlist.old (wiring_view wiring.old) word.now) }
     ensures below { OnOk result (All (IsBelow (length netlist.new.names)) wiring.new.signals) }
     ensures kept { OnOk result (length netlist.old.names ≤ length netlist.new.names) }
     ensures cells { OnOk result (netlist.new.cells ≡ netlist.old.cells) }
@@ -71,10 +73,10 @@ fn connection(
     let Some(at) = equals_at(word) else {
         return Err(BlifFault::UnknownPort { line });
     };
-    let Some(place) = gate.place(&word[..at]) else {
+    let Some(place) = formals.place(&word[..at]) else {
         return Err(BlifFault::UnknownPort { line });
     };
-    let output = place >= gate.kind.ins_count();
+    let output = place >= formals.ins_count();
     let signal = actual_signal(netlist, output, &word[at + 1..])?;
     wiring.connect(place, signal);
     Ok(())
@@ -84,11 +86,11 @@ fn connection(
 fn connections(
     netlist: &mut RawNetlist,
     line: u32,
-    gate: GateKind,
+    formals: Formals,
     words: &mut Cursor<'_>,
 ) -> Result<Wiring, BlifFault>
     ensures connections { Gives (λ wiring. (netlist.new, wiring_view wiring)) result
-        (connections_say line gate netlist.old no_wiring (words_left words.old)) }
+        (connections_say line formals netlist.old no_wiring (words_left words.old)) }
     ensures below { IfOk result (λ wiring.
         All (IsBelow (length netlist.new.names)) wiring.signals) }
     ensures kept { OnOk result (length netlist.old.names ≤ length netlist.new.names) }
@@ -97,7 +99,7 @@ fn connections(
 {
     let mut wiring = Wiring::new();
     while let Some(word) = words.next_word() {
-        connection(netlist, &mut wiring, line, gate, word)?;
+        connection(netlist, &mut wiring, line, formals, word)?;
     }
     if wiring.twice {
         return Err(BlifFault::PortTwice { line });
@@ -126,6 +128,42 @@ fn cell(alloc: Global, line: u32, gate: GateKind, wiring: &Wiring) -> Result<Cel
     })
 }
 
+// Reads the connections of a RAM. It makes no cell here.
+fn ram(
+    reader: &mut Reader,
+    line: u32,
+    edges: Edges,
+    words: &mut Cursor<'_>,
+) -> Result<(), BlifFault>
+    requires { IsReady MOST_CELL_LINES (reader_view reader.old) }
+    ensures gate { Gives (λ _. reader_view reader.new) result
+        (ram_says line (reader_view reader.old) (words_left words.old) edges) }
+    ensures ready { OnOk result (IsReady (MOST_CELL_LINES + 1) (reader_view reader.new)) }
+    ensures lines { lines_left words.new ≡ lines_left words.old }
+{
+    connections(&mut reader.netlist, line, Formals::OfRam(edges), words)?;
+    join(reader, Last::Memory, false)
+}
+
+// Reads the words behind the kind of a gate that is no cell.
+fn ram_named(
+    reader: &mut Reader,
+    line: u32,
+    word: &[u8],
+    words: &mut Cursor<'_>,
+) -> Result<(), BlifFault>
+    requires { IsReady MOST_CELL_LINES (reader_view reader.old) }
+    ensures gate { Gives (λ _. reader_view reader.new) result
+        (ram_of_word line (reader_view reader.old) (words_left words.old) (edges_of word.now)) }
+    ensures ready { OnOk result (IsReady (MOST_CELL_LINES + 1) (reader_view reader.new)) }
+    ensures lines { lines_left words.new ≡ lines_left words.old }
+{
+    let Some(edges) = edges_named(word) else {
+        return Err(BlifFault::UnknownCell { line });
+    };
+    ram(reader, line, edges, words)
+}
+
 /// Reads the words behind `.gate` or `.subckt`.
 pub(crate) fn gate(
     alloc: Global,
@@ -143,9 +181,9 @@ pub(crate) fn gate(
         return Err(BlifFault::UnknownCell { line });
     };
     let Some(gate) = GateKind::named(word) else {
-        return Err(BlifFault::UnknownCell { line });
+        return ram_named(reader, line, word, words);
     };
-    let wiring = connections(&mut reader.netlist, line, gate, words)?;
+    let wiring = connections(&mut reader.netlist, line, Formals::OfGate(gate), words)?;
     let cell = cell(alloc, line, gate, &wiring)?;
     join(reader, Last::Gate(cell), false)
 }

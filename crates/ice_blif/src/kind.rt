@@ -2,8 +2,10 @@
 ghost use Rattle.std.specs.Prelude.{◌≡◌, ◌<◌, IfSome};
 ghost use Rattle.ice_net.specs.Formed.{IsGateKind};
 ghost use Rattle.ice_blif.specs.Gates.{gate_kind_of, gate_place, gate_outs};
+ghost use Rattle.ice_blif.specs.Formals.{formal_place, formal_ins};
 
 use ice_net::{CellKind, kind_named};
+use ice_ram_words::{Edges, RAM_INPUTS, place};
 
 /// The place of the output of the global that a pad feeds, behind the ten ports of an SB_IO.
 const GLOBAL_PLACE: usize = 10;
@@ -58,5 +60,37 @@ impl GateKind {
         ensures { result ≡ gate_outs self }
     {
         self.kind.outs_count() + usize::from(self.feeds_global)
+    }
+}
+
+/// Whose formals the connections of a line have.
+#[derive(Clone, Copy)]
+pub(crate) enum Formals {
+    /// Those of a gate that is a cell.
+    OfGate(GateKind),
+    /// Those of a RAM, which is none.
+    OfRam(Edges),
+}
+
+impl Formals {
+    /// The place of a formal among the inputs and then the outputs, from 0. None exactly where there is none of that name.
+    pub(crate) fn place(self, name: &[u8]) -> Option<usize>
+        ensures place { result ≡ formal_place self name.now }
+        ensures few { IfSome result (λ place. place < 76) }
+    {
+        match self {
+            Formals::OfGate(gate) => gate.place(name),
+            Formals::OfRam(edges) => place(edges, name),
+        }
+    }
+
+    /// How many inputs there are.
+    pub(crate) fn ins_count(self) -> usize
+        ensures { result ≡ formal_ins self }
+    {
+        match self {
+            Formals::OfGate(gate) => gate.kind.ins_count(),
+            Formals::OfRam(_) => RAM_INPUTS,
+        }
     }
 }

@@ -16,6 +16,10 @@ mod registers;
 mod signal;
 mod wiring;
 
+pub use cursor::{Cursor, FirstWord};
 pub use fault::BlifFault;
+pub use gate::{equals_at, is_missing};
 pub use laws::says_netlist_or_first_fault;
 pub use model::read_blif;
+pub use parameter::bits_in;
+pub use registers::hidden_signal;

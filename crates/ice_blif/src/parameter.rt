@@ -1,15 +1,17 @@
 //! Parameters of cells.
-ghost use Rattle.std.specs.Prelude.{◌≡◌, ℕ, ◌<◌, ◌≤◌, ◌&&◌, nat_lt, Some, None, if◌then◌else◌, IfOk, IfSome, OnOk};
+ghost use Rattle.std.specs.Prelude.{◌≡◌, ℕ, ◌<◌, ◌≤◌, ◌&&◌, true, nat_lt, Some, None, if◌then◌else◌, IfOk, IfSome, OnOk};
+ghost use Rattle.std.specs.List.{list_all};
 ghost use Rattle.ice_blif.specs.Answers.{Gives};
 ghost use Rattle.ice_blif.specs.Gates.{with_param_digit};
-ghost use Rattle.ice_blif.specs.Parameters.{is_digit, bits_from, bits_in, bits_say, standard_says, KeepsForm};
-ghost use Rattle.ice_blif.specs.Cells.{lut_says, pad_says, kind_says, param_says, IsFormedLast};
+ghost use Rattle.ice_blif.specs.Parameters.{is_digit, bits_from, bits_in, bits_say, standard_says, KeepsForm, contents_say, file_says, is_contents};
+ghost use Rattle.ice_blif.specs.Cells.{lut_says, pad_says, kind_says, param_says, IsFormedLast, memory_says};
 ghost use Rattle.ice_blif.specs.Views.{last_view, words_left, lines_left};
 
 use crate::BlifFault;
 use crate::cursor::Cursor;
 use crate::reader::Last;
 use ice_net::CellKind;
+use ice_ram_words::row_named;
 
 /// The values of a parameter are below this number, that of the tables of four inputs.
 const VALUES: u32 = 65_536;
@@ -51,8 +53,8 @@ fn bits_from(limit: u32, word: &[u8]) -> Option<u32>
     Some(number)
 }
 
-// The value of 1 to 128 digits, where it is below the limit.
-fn bits_in(limit: u32, word: &[u8]) -> Option<u32>
+/// The value of 1 to 128 digits, `0`, `1` or `x`, the greatest first, where it is below the limit; `x` counts as 0.
+pub fn bits_in(limit: u32, word: &[u8]) -> Option<u32>
     requires some { 0 < limit }
     requires small { limit ≤ VALUES }
     ensures value { result ≡ bits_in limit word.now }
@@ -99,6 +101,75 @@ fn standard(line: u32, words: &mut Cursor<'_>) -> Result<bool, BlifFault>
         return Err(BlifFault::BadParam { line });
     }
     Ok(true)
+}
+
+// Whether all bytes of a word are digits of a parameter.
+fn are_digits(word: &[u8]) -> bool
+    ensures { result ≡ list_all is_digit word.now }
+{
+    word.iter().all(|b| is_digit(*b))
+}
+
+// Whether a word is the contents of sixteen words of a RAM.
+fn is_contents(word: &[u8]) -> bool
+    ensures { result ≡ is_contents word.now }
+{
+    if word.is_empty() || word.len() > 256 {
+        return false;
+    }
+    are_digits(word)
+}
+
+// Looks at the contents of sixteen words of a RAM.
+fn contents(line: u32, words: &mut Cursor<'_>) -> Result<(), BlifFault>
+    ensures value { Gives (λ _. true) result (contents_say line (words_left words.old)) }
+    ensures lines { lines_left words.new ≡ lines_left words.old }
+{
+    let Some(word) = words.next_word() else {
+        return Err(BlifFault::BadParam { line });
+    };
+    if words.next_word().is_some() {
+        return Err(BlifFault::BadParam { line });
+    }
+    if !is_contents(word) {
+        return Err(BlifFault::BadParam { line });
+    }
+    Ok(())
+}
+
+// Looks at INIT_FILE, which must name no file.
+fn file(line: u32, words: &mut Cursor<'_>) -> Result<(), BlifFault>
+    ensures value { Gives (λ _. true) result (file_says line (words_left words.old)) }
+    ensures lines { lines_left words.new ≡ lines_left words.old }
+{
+    let Some(word) = words.next_word() else {
+        return Err(BlifFault::BadParam { line });
+    };
+    if words.next_word().is_some() {
+        return Err(BlifFault::BadParam { line });
+    }
+    if word != b"\"\"".as_slice() {
+        return Err(BlifFault::BadParam { line });
+    }
+    Ok(())
+}
+
+// Looks at a parameter of a RAM. Its value is read where RAMs are.
+fn memory(line: u32, name: &[u8], words: &mut Cursor<'_>) -> Result<(), BlifFault>
+    ensures value { Gives (λ _. true) result (memory_says line name.now (words_left words.old)) }
+    ensures lines { lines_left words.new ≡ lines_left words.old }
+{
+    if row_named(name).is_some() {
+        return contents(line, words);
+    }
+    if name == b"READ_MODE".as_slice() || name == b"WRITE_MODE".as_slice() {
+        let _mode = bits(4, line, words)?;
+        return Ok(());
+    }
+    if name == b"INIT_FILE".as_slice() {
+        return file(line, words);
+    }
+    Ok(())
 }
 
 // A look-up table with a parameter.
@@ -178,9 +249,12 @@ pub(crate) fn param(last: &mut Last, line: u32, words: &mut Cursor<'_>) -> Resul
     let Some(name) = words.next_word() else {
         return Ok(());
     };
-    let Last::Gate(cell) = last else {
-        return Ok(());
-    };
-    cell.kind = kind(line, cell.kind, name, words)?;
-    Ok(())
+    match last {
+        Last::Gate(cell) => {
+            cell.kind = kind(line, cell.kind, name, words)?;
+            Ok(())
+        }
+        Last::Memory => memory(line, name, words),
+        _ => Ok(()),
+    }
 }

@@ -37,6 +37,8 @@ pub(crate) enum Last {
     Nothing,
     /// A `.gate` or `.subckt` cell, to which parameters belong.
     Gate(Cell),
+    /// A RAM, to which parameters belong. It is no cell of the netlist.
+    Memory,
     /// A `.names` cell, to which rows belong.
     Rows(Cover),
 }
@@ -77,7 +79,7 @@ pub(crate) fn finish(netlist: &mut RawNetlist, last: Last) -> Result<(), BlifFau
     ensures memory { IfErr result (λ e. e ≡ out_of_memory) }
 {
     match last {
-        Last::Nothing => Ok(()),
+        Last::Nothing | Last::Memory => Ok(()),
         Last::Gate(cell) => netlist.cell(cell),
         Last::Rows(cover) => netlist.cell(cover_cell(cover)),
     }

@@ -41,8 +41,8 @@ const OUTPUT_CLK: usize = 7;
 /// The place of the port D_IN_0 of SB_IO among its outputs.
 const D_IN_0: usize = 0;
 
-// The hidden signal of a cell, by the number of its line and a word.
-fn hidden_signal(
+/// The hidden signal of a cell or a RAM, by the number of its line and a word.
+pub fn hidden_signal(
     alloc: Global,
     netlist: &mut Netlist,
     line: u32,

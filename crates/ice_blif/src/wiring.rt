@@ -1,16 +1,17 @@
-//! The connections of a cell.
+//! The connections of a gate.
 ghost use Rattle.std.specs.Prelude.{◌≡◌, ◌<◌, All};
 ghost use Rattle.ice_net.specs.Formed.{IsBelow};
 
 use ice_base::SignalNo;
+use ice_ram_words::RAM_PLACES;
 
-/// The connections of a cell, by the places of its inputs and then its outputs.
+/// The connections of a gate, by the places of its inputs and then its outputs. A RAM has the most.
 #[derive(Clone, Copy)]
 pub(crate) struct Wiring {
     /// Whether the port was named.
-    pub(crate) taken: [bool; 11],
+    pub(crate) taken: [bool; RAM_PLACES],
     /// The signal at the port.
-    pub(crate) signals: [Option<SignalNo>; 11],
+    pub(crate) signals: [Option<SignalNo>; RAM_PLACES],
     /// Whether a port was named twice.
     pub(crate) twice: bool,
 }
@@ -25,15 +26,15 @@ impl Wiring {
         ensures below { All (IsBelow 0) result.signals }
     {
         Wiring {
-            taken: [false; 11],
-            signals: [None; 11],
+            taken: [false; RAM_PLACES],
+            signals: [None; RAM_PLACES],
             twice: false,
         }
     }
 
     /// Connects the port of that place.
     pub(crate) fn connect(&mut self, place: usize, signal: Option<SignalNo>)
-        requires { place < 11 }
+        requires { place < RAM_PLACES }
         ensures { wiring_view self.new ≡ wired (wiring_view self.old) place signal }
     {
         let taken = self.taken[place];

@@ -8,6 +8,7 @@ mod Values
 mod Steps
 mod Sound
 mod Written
+mod NoRams
 mod TextSteps
 mod TextParams
 pub mod TextNetlists

@@ -6,20 +6,22 @@ use Rattle.ice_base.specs.Lists.{number_of_name}
 use Rattle.ice_base.specs.declared.number.SignalNo.{SignalNo}
 use Rattle.ice_net.specs.declared.port.Way.{Way}
 use Rattle.ice_net.specs.declared.port.Way.TheVariants.{Input, Output}
-use Rattle.ice_net.specs.Kinds.{ins_count}
 use Rattle.ice_net.specs.NetlistData.{NetlistData}
 use Rattle.ice_net.specs.Ways.{way_of}
 use Rattle.ice_net.proofs.Single.{names_once, empty_single}
 use Rattle.ice_blif.specs.declared.fault.BlifFault.{BlifFault}
 use Rattle.ice_blif.specs.declared.fault.BlifFault.TheVariants.{NoModel, SecondModel, UnknownDirective, PortTwice, TooWide}
 use Rattle.ice_blif.specs.GateForms.{GateForm}
-use Rattle.ice_blif.specs.Gates.{gate_kind_of, gate_place}
-use Rattle.ice_blif.specs.State.{named, signal_of, LastCell, Nothing, Gate, Rows, finished}
+use Rattle.ice_blif.specs.Gates.{gate_kind_of}
+use Rattle.ice_blif.specs.State.{named, signal_of, LastCell, Nothing, Gate, Rows, finished, Memory}
 use Rattle.ice_blif.specs.Reading.{NetReading, Connections}
 use Rattle.ice_blif.specs.JoinedLines.{FilledLine, joined, filled, last_number}
 use Rattle.ice_blif.specs.Cells.{◌>>=◌, cover_row_says, param_says}
-use Rattle.ice_blif.specs.Grammar.{was_named, with_named_port, port_says, ports_say, no_wiring, is_missing, after_actual, connect_at, connect_by, equals_at, connection_says, connections_say, cell_of, with_last, without_rows, gate_of_kind, gate_says, cover_signals, cover_of, names_say, row_line, row_or_fault, port_directive_says, param_directive_says, directive_says, no_limits, line_says, after_end, ended, model_says, empty_reader, lines_say}
+use Rattle.ice_blif.specs.Grammar.{was_named, with_named_port, port_says, ports_say, no_wiring, is_missing, after_actual, connect_at, connect_by, equals_at, connection_says, connections_say, cell_of, with_last, without_rows, gate_of_kind, gate_says, cover_signals, cover_of, names_say, row_line, row_or_fault, port_directive_says, param_directive_says, directive_says, no_limits, line_says, after_end, ended, model_says, empty_reader, lines_say, ram_of_word}
+use Rattle.ice_ram_words.specs.declared.kind.Edges.{Edges}
+use Rattle.ice_ram_words.specs.Words.{edges_of}
 use Rattle.ice_blif.specs.Registers.{hidden_name, without_cells}
+use Rattle.ice_blif.specs.Formals.{FormalsForm, formal_place, formal_ins, of_gate, of_ram}
 use Rattle.ice_blif.proofs.Apart.{HiddenKeep, all_keep}
 use Rattle.ice_blif.proofs.Kept.{bind_keeps, either, any_ok}
 use Rattle.ice_blif.proofs.OpenCells.{finished_names}
@@ -56,29 +58,35 @@ actual_once n output actual once = by (is_missing output actual)
     by true = once
     by false = names_once n.names actual once
 
-connect_once : (line : ℕ) (gate : GateForm) (n : NetlistData) (wiring : Connections) (word : List ℕ) (at : Option ℕ) → NamesOnce n → IfOk (connect_by line gate n wiring word at) (Beside {X = Connections})
-connect_once line gate n wiring word None once = tt
-connect_once line gate n wiring word (Some at) once = place (gate_place gate (take at word))
+connect_once : (line : ℕ) (formals : FormalsForm) (n : NetlistData) (wiring : Connections) (word : List ℕ) (at : Option ℕ) → NamesOnce n → IfOk (connect_by line formals n wiring word at) (Beside {X = Connections})
+connect_once line formals n wiring word None once = tt
+connect_once line formals n wiring word (Some at) once = place (formal_place formals (take at word))
   where
-    place : (o : Option ℕ) → IfOk (connect_at line gate n wiring (drop (at + 1) word) o) (Beside {X = Connections})
+    place : (o : Option ℕ) → IfOk (connect_at line formals n wiring (drop (at + 1) word) o) (Beside {X = Connections})
     place None = tt
-    place (Some k) = actual_once n (nat_le (ins_count gate.kind) k) (drop (at + 1) word) once
+    place (Some k) = actual_once n (nat_le (formal_ins formals) k) (drop (at + 1) word) once
 
-connections_once : (line : ℕ) (gate : GateForm) (n : NetlistData) (wiring : Connections) (words : List (List ℕ)) → NamesOnce n → IfOk (connections_say line gate n wiring words) (Beside {X = Connections})
-connections_once line gate n wiring [] once = either (Beside {X = Connections}) wiring.twice (Err (PortTwice line)) (Ok (n, wiring)) tt once
-connections_once line gate n wiring (w ∷ ws) once =
-    bind_keeps (Beside {X = Connections}) (Beside {X = Connections}) (connection_says line gate n wiring w) (λ c. connections_say line gate c.0 c.1 ws) (connect_once line gate n wiring w (equals_at w) once)
-    (λ c later. connections_once line gate c.0 c.1 ws later)
+connections_once : (line : ℕ) (formals : FormalsForm) (n : NetlistData) (wiring : Connections) (words : List (List ℕ)) → NamesOnce n → IfOk (connections_say line formals n wiring words) (Beside {X = Connections})
+connections_once line formals n wiring [] once = either (Beside {X = Connections}) wiring.twice (Err (PortTwice line)) (Ok (n, wiring)) tt once
+connections_once line formals n wiring (w ∷ ws) once =
+    bind_keeps (Beside {X = Connections}) (Beside {X = Connections}) (connection_says line formals n wiring w) (λ c. connections_say line formals c.0 c.1 ws) (connect_once line formals n wiring w (equals_at w) once)
+    (λ c later. connections_once line formals c.0 c.1 ws later)
 
-gate_of_kind_once : (line : ℕ) (r : NetReading) (words : List (List ℕ)) (gate : Option GateForm) → StateOnce r → IfOk (gate_of_kind line r words gate) StateOnce
-gate_of_kind_once line r words None once = tt
-gate_of_kind_once line r words (Some gate) once =
-    bind_keeps (Beside {X = Connections}) StateOnce (connections_say line gate r.netlist no_wiring words) (λ c. Ok (with_last c.0 r.last (Gate (cell_of line gate c.1)) false))
-    (connections_once line gate r.netlist no_wiring words once) (λ c later. finished_once c.0 r.last later)
+ram_once : (line : ℕ) (r : NetReading) (words : List (List ℕ)) (edges : Option Edges) → StateOnce r → IfOk (ram_of_word line r words edges) StateOnce
+ram_once line r words None once = tt
+ram_once line r words (Some edges) once =
+    bind_keeps (Beside {X = Connections}) StateOnce (connections_say line (of_ram edges) r.netlist no_wiring words) (λ c. Ok (with_last c.0 r.last Memory false))
+    (connections_once line (of_ram edges) r.netlist no_wiring words once) (λ c later. finished_once c.0 r.last later)
+
+gate_of_kind_once : (line : ℕ) (r : NetReading) (word : List ℕ) (words : List (List ℕ)) (gate : Option GateForm) → StateOnce r → IfOk (gate_of_kind line r word words gate) StateOnce
+gate_of_kind_once line r word words None once = ram_once line r words (edges_of word) once
+gate_of_kind_once line r word words (Some gate) once =
+    bind_keeps (Beside {X = Connections}) StateOnce (connections_say line (of_gate gate) r.netlist no_wiring words) (λ c. Ok (with_last c.0 r.last (Gate (cell_of line gate c.1)) false))
+    (connections_once line (of_gate gate) r.netlist no_wiring words once) (λ c later. finished_once c.0 r.last later)
 
 gate_once : (line : ℕ) (r : NetReading) (words : List (List ℕ)) → StateOnce r → IfOk (gate_says line r words) StateOnce
 gate_once line r [] once = tt
-gate_once line r (w ∷ ws) once = gate_of_kind_once line r ws (gate_kind_of w) once
+gate_once line r (w ∷ ws) once = gate_of_kind_once line r w ws (gate_kind_of w) once
 
 -- ---- covers
 signals_once : (line : ℕ) (n : NetlistData) (signals : List (Option SignalNo)) (words : List (List ℕ)) → NamesOnce n → IfOk (cover_signals line n signals words) (Beside {X = List (Option SignalNo)})
@@ -100,6 +108,7 @@ covers_once line r words once =
 row_line_once : (line : ℕ) (r : NetReading) (last : LastCell) (first : List ℕ) (others : List (List ℕ)) → StateOnce r → IfOk (row_line line r last first others) StateOnce
 row_line_once line r Nothing first others once = tt
 row_line_once line r (Gate cell) first others once = tt
+row_line_once line r Memory first others once = tt
 row_line_once line r (Rows cover) first others once =
     bind_keeps (λ c. Unit {0}) StateOnce (cover_row_says line cover first others) (λ c. Ok (record { netlist = r.netlist; last = Rows c; rows = true })) (any_ok (cover_row_says line cover first others)) (λ c kept. once)
 

@@ -7,8 +7,8 @@ use Rattle.ice_net.specs.declared.kind.CellKind.TheVariants.{Lut, Cover, Carry, 
 use Rattle.ice_blif.specs.declared.fault.BlifFault.{BlifFault}
 use Rattle.ice_blif.specs.Gates.{with_param_digit}
 use Rattle.ice_blif.specs.Parameters.{bits_from, read_value, bits_say, standard_says, is_digit}
-use Rattle.ice_blif.specs.State.{LastCell, Nothing, Gate, Rows, with_kind}
-use Rattle.ice_blif.specs.Cells.{◌>>=◌, lut_says, pad_says, kind_says, param_says}
+use Rattle.ice_blif.specs.State.{LastCell, Nothing, Gate, Memory, Rows, with_kind}
+use Rattle.ice_blif.specs.Cells.{◌>>=◌, lut_says, pad_says, kind_says, memory_says, param_says}
 use Rattle.ice_blif.proofs.Kept.{bind_keeps, any_ok}
 use Rattle.ice_blif_laws.specs.NetlistText.{kind_with, param_joins}
 
@@ -125,6 +125,9 @@ with_kind_joined cell name (v ∷ w ∷ values) = refl
 pub param_said : (line : ℕ) (last : LastCell) (ws : List (List ℕ)) → IfOk (param_says line last ws) (λ (k : LastCell). param_joins last ws ≡ k)
 param_said line Nothing [] = refl
 param_said line Nothing (name ∷ values) = refl
+param_said line Memory [] = refl
+param_said line Memory (name ∷ values) =
+    bind_keeps (λ (good : Bool). Unit {0}) (λ (k : LastCell). param_joins Memory (name ∷ values) ≡ k) (memory_says line name values) (λ good. Ok Memory) (any_ok (memory_says line name values)) (λ good one. refl)
 param_said line (Rows cover) [] = refl
 param_said line (Rows cover) (name ∷ values) = refl
 param_said line (Gate cell) [] = refl

@@ -11,12 +11,16 @@ use Rattle.ice_blif.specs.declared.fault.BlifFault.{BlifFault}
 use Rattle.ice_blif.specs.declared.fault.BlifFault.TheVariants.{PortTwice, BadCover, TooWide}
 use Rattle.ice_blif.specs.GateForms.{GateForm}
 use Rattle.ice_blif.specs.Gates.{gate_kind_of, gate_place}
-use Rattle.ice_blif.specs.State.{OpenCover, LastCell, Nothing, Gate, Rows, named, signal_of, with_cover_row}
+use Rattle.ice_blif.specs.State.{OpenCover, LastCell, Nothing, Gate, Memory, Rows, named, signal_of, with_cover_row}
 use Rattle.ice_blif.specs.Reading.{NetReading, Connections}
 use Rattle.ice_blif.specs.Cells.{row_of_level, cover_row_of, cover_row_says, is_row, agrees}
 use Rattle.ice_blif.specs.Covers.{level_of_word}
-use Rattle.ice_blif.specs.Grammar.{was_named, with_named_port, port_says, ports_say, no_wiring, is_missing, after_actual, actual_signal, connect_at, connect_by, equals_at, connection_says, connections_say, cell_of, with_last, gate_of_kind, gate_says, cover_signals, cover_of, names_say, row_line}
+use Rattle.ice_blif.specs.Grammar.{was_named, with_named_port, port_says, ports_say, no_wiring, is_missing, after_actual, actual_signal, connect_at, connect_by, equals_at, connection_says, connections_say, cell_of, with_last, ram_of_word, gate_of_kind, gate_says, cover_signals, cover_of, names_say, row_line}
+use Rattle.ice_blif.specs.Formals.{of_gate}
 use Rattle.ice_blif.proofs.Kept.{bind_keeps, either, weaker}
+use Rattle.ice_ram_words.specs.declared.kind.Edges.{Edges}
+use Rattle.ice_ram_words.specs.Words.{edges_of}
+use Rattle.ice_blif_laws.proofs.NoRams.{OpensNone}
 use Rattle.ice_blif_laws.specs.NetlistText.{NetSoFar, Wiring, port_joins, actual_joins, connection_joins, connections_join, gate_joins, gate_directive, signal_joins, cover_joins, cover_row, row_joins_cover}
 
 -- what the reader has read so far, in the words of the text
@@ -26,6 +30,10 @@ seen r = (r.netlist, r.last)
 -- a step and the reader's come to the same, where the reader takes it
 abbrev pub Alike : Option NetSoFar → Result NetReading BlifFault → Type 0
 Alike o m = IfOk m (λ (r : NetReading). o ≡ Some (seen r))
+
+pub chosen_by : (b : Bool) (o p : Option NetSoFar) (m k : Result NetReading BlifFault) → (b ≡ true → Alike o m) → Alike p k → Alike (if b then o else p) (if b then m else k)
+chosen_by true o p m k first second = first refl
+chosen_by false o p m k first second = second
 
 pub chosen : (b : Bool) (o p : Option NetSoFar) (m k : Result NetReading BlifFault) → Alike o m → Alike p k → Alike (if b then o else p) (if b then m else k)
 chosen true o p m k first second = first
@@ -56,32 +64,37 @@ actual_said output actual n signals place = by (is_missing output actual)
     by true = refl
     by false = refl
 
-connection_said : (line : ℕ) (gate : GateForm) (n : NetlistData) (wiring : Connections) (word : List ℕ) → IfOk (connection_says line gate n wiring word) (Wired (connection_joins gate word (n, wiring.signals)))
+connection_said : (line : ℕ) (gate : GateForm) (n : NetlistData) (wiring : Connections) (word : List ℕ) → IfOk (connection_says line (of_gate gate) n wiring word) (Wired (connection_joins gate word (n, wiring.signals)))
 connection_said line gate n wiring word = by (equals_at word) (equals_is word)
   where
-    at_place : (at : ℕ) (o : Option ℕ) → IfOk (connect_at line gate n wiring (drop (at + 1) word) o) (Wired (option_map (λ place. actual_joins (nat_le (ins_count gate.kind) place) (drop (at + 1) word) (n, wiring.signals) place) o))
+    at_place : (at : ℕ) (o : Option ℕ) → IfOk (connect_at line (of_gate gate) n wiring (drop (at + 1) word) o) (Wired (option_map (λ place. actual_joins (nat_le (ins_count gate.kind) place) (drop (at + 1) word) (n, wiring.signals) place) o))
     at_place at None = tt
     at_place at (Some place) = ap (λ (c : Wiring). Some c) (actual_said (nat_le (ins_count gate.kind) place) (drop (at + 1) word) n wiring.signals place)
 
-    by : (o : Option ℕ) → o ≡ position (λ b. b == 61) word → IfOk (connect_by line gate n wiring word o) (Wired (connection_joins gate word (n, wiring.signals)))
+    by : (o : Option ℕ) → o ≡ position (λ b. b == 61) word → IfOk (connect_by line (of_gate gate) n wiring word o) (Wired (connection_joins gate word (n, wiring.signals)))
     by None e = tt
-    by (Some at) e = subst (λ (o : Option ℕ). IfOk (connect_by line gate n wiring word (Some at)) (Wired (option_and_then (λ at. option_map (λ place. actual_joins (nat_le (ins_count gate.kind) place) (drop (at + 1) word) (n, wiring.signals) place) (gate_place gate (take at word))) o))) e (at_place at (gate_place gate (take at word)))
+    by (Some at) e = subst (λ (o : Option ℕ). IfOk (connect_by line (of_gate gate) n wiring word (Some at)) (Wired (option_and_then (λ at. option_map (λ place. actual_joins (nat_le (ins_count gate.kind) place) (drop (at + 1) word) (n, wiring.signals) place) (gate_place gate (take at word))) o))) e (at_place at (gate_place gate (take at word)))
 
-connections_said : (line : ℕ) (gate : GateForm) (n : NetlistData) (wiring : Connections) (ws : List (List ℕ)) → IfOk (connections_say line gate n wiring ws) (Wired (connections_join gate ws (n, wiring.signals)))
+connections_said : (line : ℕ) (gate : GateForm) (n : NetlistData) (wiring : Connections) (ws : List (List ℕ)) → IfOk (connections_say line (of_gate gate) n wiring ws) (Wired (connections_join gate ws (n, wiring.signals)))
 connections_said line gate n wiring [] = either (Wired (Some (n, wiring.signals))) wiring.twice (Err (PortTwice line)) (Ok (n, wiring)) tt refl
 connections_said line gate n wiring (w ∷ ws) =
-    bind_keeps (Wired (connection_joins gate w (n, wiring.signals))) (Wired (connections_join gate (w ∷ ws) (n, wiring.signals))) (connection_says line gate n wiring w) (λ c. connections_say line gate c.0 c.1 ws) (connection_said line gate n wiring w)
-    (λ c one. weaker (Wired (connections_join gate ws (c.0, c.1.signals))) (Wired (connections_join gate (w ∷ ws) (n, wiring.signals))) (connections_say line gate c.0 c.1 ws)
+    bind_keeps (Wired (connection_joins gate w (n, wiring.signals))) (Wired (connections_join gate (w ∷ ws) (n, wiring.signals))) (connection_says line (of_gate gate) n wiring w) (λ c. connections_say line (of_gate gate) c.0 c.1 ws) (connection_said line gate n wiring w)
+    (λ c one. weaker (Wired (connections_join gate ws (c.0, c.1.signals))) (Wired (connections_join gate (w ∷ ws) (n, wiring.signals))) (connections_say line (of_gate gate) c.0 c.1 ws)
     (λ k later. ap (option_and_then (connections_join gate ws)) one ∙ later) (connections_said line gate c.0 c.1 ws))
 
-pub gate_said : (line : ℕ) (r : NetReading) (ws : List (List ℕ)) → Alike (gate_directive line ws (seen r)) (gate_says line r ws)
-gate_said line r [] = tt
-gate_said line r (w ∷ ws) = by (gate_kind_of w)
+-- what is no RAM and no gate is no cell
+other_said : (line : ℕ) (r : NetReading) (ws : List (List ℕ)) (o : Option Edges) → o ≡ None → Alike None (ram_of_word line r ws o)
+other_said line r ws None none = tt
+other_said line r ws (Some edges) none = absurd (cc)
+
+pub gate_said : (line : ℕ) (r : NetReading) (ws : List (List ℕ)) → OpensNone ws → Alike (gate_directive line ws (seen r)) (gate_says line r ws)
+gate_said line r [] none = tt
+gate_said line r (w ∷ ws) none = by (gate_kind_of w)
   where
-    by : (o : Option GateForm) → Alike (option_and_then (λ gate. option_map (gate_joins line gate r.last) (connections_join gate ws (r.netlist, no_wiring.signals))) o) (gate_of_kind line r ws o)
-    by None = tt
+    by : (o : Option GateForm) → Alike (option_and_then (λ gate. option_map (gate_joins line gate r.last) (connections_join gate ws (r.netlist, no_wiring.signals))) o) (gate_of_kind line r w ws o)
+    by None = other_said line r ws (edges_of w) none
     by (Some gate) =
-        bind_keeps (Wired (connections_join gate ws (r.netlist, no_wiring.signals))) (λ (s : NetReading). option_map (gate_joins line gate r.last) (connections_join gate ws (r.netlist, no_wiring.signals)) ≡ Some (seen s)) (connections_say line gate r.netlist no_wiring ws) (λ c. Ok (with_last c.0 r.last (Gate (cell_of line gate c.1)) false)) (connections_said line gate r.netlist no_wiring ws)
+        bind_keeps (Wired (connections_join gate ws (r.netlist, no_wiring.signals))) (λ (s : NetReading). option_map (gate_joins line gate r.last) (connections_join gate ws (r.netlist, no_wiring.signals)) ≡ Some (seen s)) (connections_say line (of_gate gate) r.netlist no_wiring ws) (λ c. Ok (with_last c.0 r.last (Gate (cell_of line gate c.1)) false)) (connections_said line gate r.netlist no_wiring ws)
         (λ c one. ap (option_map (gate_joins line gate r.last)) one)
 
 -- ---- covers
@@ -130,6 +143,7 @@ cover_row_said line c first (level ∷ word ∷ others) = by (length c.ins == 0)
 pub row_said : (line : ℕ) (r : NetReading) (last : LastCell) (first : List ℕ) (others : List (List ℕ)) → Alike (row_joins_cover last (first ∷ others) r.netlist) (row_line line r last first others)
 row_said line r Nothing first others = tt
 row_said line r (Gate cell) first others = tt
+row_said line r Memory first others = tt
 row_said line r (Rows cover) first others =
     bind_keeps (λ (k : OpenCover). cover_row cover (first ∷ others) ≡ Some k) (λ (s : NetReading). row_joins_cover (Rows cover) (first ∷ others) r.netlist ≡ Some (seen s)) (cover_row_says line cover first others) (λ c. Ok (record { netlist = r.netlist; last = Rows c; rows = true }))
     (cover_row_said line cover first others) (λ c one. ap (option_map (λ (more : OpenCover). (r.netlist, Rows more))) one)

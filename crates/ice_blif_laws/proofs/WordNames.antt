@@ -9,20 +9,22 @@ use Rattle.ice_base.specs.declared.number.SignalNo.{SignalNo}
 use Rattle.ice_base.proofs.TextLines.{all_append}
 use Rattle.ice_net.specs.declared.port.Way.{Way}
 use Rattle.ice_net.specs.declared.port.Way.TheVariants.{Input, Output}
-use Rattle.ice_net.specs.Kinds.{ins_count}
 use Rattle.ice_net.specs.NetlistData.{NetlistData}
 use Rattle.ice_net.specs.Ways.{way_of}
 use Rattle.ice_blif.specs.declared.fault.BlifFault.{BlifFault}
 use Rattle.ice_blif.specs.declared.fault.BlifFault.TheVariants.{NoModel, SecondModel, UnknownDirective, PortTwice, TooWide, TooMany}
 use Rattle.ice_blif.specs.GateForms.{GateForm}
-use Rattle.ice_blif.specs.Gates.{gate_kind_of, gate_place}
-use Rattle.ice_blif.specs.State.{named, signal_of, LastCell, Nothing, Gate, Rows, finished}
+use Rattle.ice_blif.specs.Gates.{gate_kind_of}
+use Rattle.ice_blif.specs.State.{named, signal_of, LastCell, Nothing, Gate, Rows, finished, Memory}
 use Rattle.ice_blif.specs.Reading.{NetReading, Connections}
 use Rattle.ice_blif.specs.JoinedLines.{FilledLine, joined, filled, last_number}
 use Rattle.ice_blif.specs.Cells.{◌>>=◌, cover_row_says, param_says, count_of}
-use Rattle.ice_blif.specs.Grammar.{was_named, with_named_port, port_says, ports_say, no_wiring, is_missing, after_actual, connect_at, connect_by, equals_at, connection_says, connections_say, cell_of, with_last, without_rows, gate_of_kind, gate_says, cover_signals, new_cover, cover_of, names_say, row_line, row_or_fault, port_directive_says, param_directive_says, directive_says, within_limits, line_says, after_end, ended, model_says, empty_reader, lines_say, text_says}
+use Rattle.ice_blif.specs.Grammar.{was_named, with_named_port, port_says, ports_say, no_wiring, is_missing, after_actual, connect_at, connect_by, equals_at, connection_says, connections_say, cell_of, with_last, without_rows, gate_of_kind, gate_says, cover_signals, new_cover, cover_of, names_say, row_line, row_or_fault, port_directive_says, param_directive_says, directive_says, within_limits, line_says, after_end, ended, model_says, empty_reader, lines_say, text_says, ram_of_word}
 use Rattle.ice_blif.specs.Registers.{hidden_name, without_cells}
 use Rattle.ice_blif.specs.FewSignals.{taken_apart_says}
+use Rattle.ice_blif.specs.Formals.{FormalsForm, formal_place, formal_ins, of_gate, of_ram}
+use Rattle.ice_ram_words.specs.declared.kind.Edges.{Edges}
+use Rattle.ice_ram_words.specs.Words.{edges_of}
 use Rattle.ice_blif.proofs.Apart.{HiddenKeep, all_keep, said_apart}
 use Rattle.ice_blif.proofs.Growing.{text_small}
 use Rattle.ice_blif.proofs.Kept.{bind_keeps, either, any_ok, bound}
@@ -66,22 +68,22 @@ actual_words n output actual whole all = by (is_missing output actual) refl
     by true e = all
     by false e = named_words n actual (whole_word actual output e whole) all
 
-connect_at_words : (line : ℕ) (gate : GateForm) (n : NetlistData) (wiring : Connections) (actual : List ℕ) (place : Option ℕ) → IsWhole actual → NamesWords n
-    → IfOk (connect_at line gate n wiring actual place) (BesideWords {X = Connections})
-connect_at_words line gate n wiring actual None whole all = tt
-connect_at_words line gate n wiring actual (Some place) whole all = actual_words n (nat_le (ins_count gate.kind) place) actual whole all
+connect_at_words : (line : ℕ) (formals : FormalsForm) (n : NetlistData) (wiring : Connections) (actual : List ℕ) (place : Option ℕ) → IsWhole actual → NamesWords n
+    → IfOk (connect_at line formals n wiring actual place) (BesideWords {X = Connections})
+connect_at_words line formals n wiring actual None whole all = tt
+connect_at_words line formals n wiring actual (Some place) whole all = actual_words n (nat_le (formal_ins formals) place) actual whole all
 
-connect_words : (line : ℕ) (gate : GateForm) (n : NetlistData) (wiring : Connections) (word : List ℕ) (at : Option ℕ) → IsWhole word → NamesWords n
-    → IfOk (connect_by line gate n wiring word at) (BesideWords {X = Connections})
-connect_words line gate n wiring word None whole all = tt
-connect_words line gate n wiring word (Some at) whole all = connect_at_words line gate n wiring (drop (at + 1) word) (gate_place gate (take at word)) (rec_drop _ (at + 1) word whole) all
+connect_words : (line : ℕ) (formals : FormalsForm) (n : NetlistData) (wiring : Connections) (word : List ℕ) (at : Option ℕ) → IsWhole word → NamesWords n
+    → IfOk (connect_by line formals n wiring word at) (BesideWords {X = Connections})
+connect_words line formals n wiring word None whole all = tt
+connect_words line formals n wiring word (Some at) whole all = connect_at_words line formals n wiring (drop (at + 1) word) (formal_place formals (take at word)) (rec_drop _ (at + 1) word whole) all
 
-connections_words : (line : ℕ) (gate : GateForm) (n : NetlistData) (wiring : Connections) (words : List (List ℕ)) → AreWords words → NamesWords n
-    → IfOk (connections_say line gate n wiring words) (BesideWords {X = Connections})
-connections_words line gate n wiring [] words all = either (BesideWords {X = Connections}) wiring.twice (Err (PortTwice line)) (Ok (n, wiring)) tt all
-connections_words line gate n wiring (w ∷ ws) words all =
-    bind_keeps (BesideWords {X = Connections}) (BesideWords {X = Connections}) (connection_says line gate n wiring w) (λ c. connections_say line gate c.0 c.1 ws)
-    (connect_words line gate n wiring w (equals_at w) words.0.1 all) (λ c kept. connections_words line gate c.0 c.1 ws words.1 kept)
+connections_words : (line : ℕ) (formals : FormalsForm) (n : NetlistData) (wiring : Connections) (words : List (List ℕ)) → AreWords words → NamesWords n
+    → IfOk (connections_say line formals n wiring words) (BesideWords {X = Connections})
+connections_words line formals n wiring [] words all = either (BesideWords {X = Connections}) wiring.twice (Err (PortTwice line)) (Ok (n, wiring)) tt all
+connections_words line formals n wiring (w ∷ ws) words all =
+    bind_keeps (BesideWords {X = Connections}) (BesideWords {X = Connections}) (connection_says line formals n wiring w) (λ c. connections_say line formals c.0 c.1 ws)
+    (connect_words line formals n wiring w (equals_at w) words.0.1 all) (λ c kept. connections_words line formals c.0 c.1 ws words.1 kept)
 
 cover_signals_words : (line : ℕ) (n : NetlistData) (signals : List (Option SignalNo)) (words : List (List ℕ)) → AreWords words → NamesWords n
     → IfOk (cover_signals line n signals words) (BesideWords {X = List (Option SignalNo)})
@@ -97,15 +99,21 @@ StateWords r = NamesWords r.netlist
 last_words : (n : NetlistData) (before now : LastCell) (rows : Bool) → NamesWords n → StateWords (with_last n before now rows)
 last_words n before now rows all = subst AreWords (sym (finished_names n before)) all
 
-gate_of_kind_words : (line : ℕ) (r : NetReading) (words : List (List ℕ)) (gate : Option GateForm) → AreWords words → StateWords r → IfOk (gate_of_kind line r words gate) StateWords
-gate_of_kind_words line r words None are all = tt
-gate_of_kind_words line r words (Some gate) are all =
-    bind_keeps (BesideWords {X = Connections}) StateWords (connections_say line gate r.netlist no_wiring words) (λ c. Ok (with_last c.0 r.last (Gate (cell_of line gate c.1)) false))
-    (connections_words line gate r.netlist no_wiring words are all) (λ c kept. last_words c.0 r.last (Gate (cell_of line gate c.1)) false kept)
+ram_words : (line : ℕ) (r : NetReading) (words : List (List ℕ)) (edges : Option Edges) → AreWords words → StateWords r → IfOk (ram_of_word line r words edges) StateWords
+ram_words line r words None are all = tt
+ram_words line r words (Some edges) are all =
+    bind_keeps (BesideWords {X = Connections}) StateWords (connections_say line (of_ram edges) r.netlist no_wiring words) (λ c. Ok (with_last c.0 r.last Memory false))
+    (connections_words line (of_ram edges) r.netlist no_wiring words are all) (λ c kept. last_words c.0 r.last Memory false kept)
+
+gate_of_kind_words : (line : ℕ) (r : NetReading) (word : List ℕ) (words : List (List ℕ)) (gate : Option GateForm) → AreWords words → StateWords r → IfOk (gate_of_kind line r word words gate) StateWords
+gate_of_kind_words line r word words None are all = ram_words line r words (edges_of word) are all
+gate_of_kind_words line r word words (Some gate) are all =
+    bind_keeps (BesideWords {X = Connections}) StateWords (connections_say line (of_gate gate) r.netlist no_wiring words) (λ c. Ok (with_last c.0 r.last (Gate (cell_of line gate c.1)) false))
+    (connections_words line (of_gate gate) r.netlist no_wiring words are all) (λ c kept. last_words c.0 r.last (Gate (cell_of line gate c.1)) false kept)
 
 gate_words : (line : ℕ) (r : NetReading) (words : List (List ℕ)) → AreWords words → StateWords r → IfOk (gate_says line r words) StateWords
 gate_words line r [] are all = tt
-gate_words line r (w ∷ ws) are all = gate_of_kind_words line r ws (gate_kind_of w) are.1 all
+gate_words line r (w ∷ ws) are all = gate_of_kind_words line r w ws (gate_kind_of w) are.1 all
 
 cover_words : (line : ℕ) (r : NetReading) (n : NetlistData) (signals : List (Option SignalNo)) → NamesWords n → IfOk (cover_of line r n signals) StateWords
 cover_words line r n [] all = tt
@@ -119,6 +127,7 @@ names_words line r words are all =
 row_line_words : (line : ℕ) (r : NetReading) (last : LastCell) (first : List ℕ) (others : List (List ℕ)) → StateWords r → IfOk (row_line line r last first others) StateWords
 row_line_words line r Nothing first others all = tt
 row_line_words line r (Gate cell) first others all = tt
+row_line_words line r Memory first others all = tt
 row_line_words line r (Rows cover) first others all =
     bind_keeps (λ c. Unit {0}) StateWords (cover_row_says line cover first others) (λ c. Ok (record { netlist = r.netlist; last = Rows c; rows = true })) (any_ok (cover_row_says line cover first others)) (λ c kept. all)
 

@@ -1,5 +1,5 @@
--- What a netlist text says, for one who reads it and has no use for its faults. A text that the reader takes says the netlist that the
--- reader makes of it.
+-- What a netlist text without RAMs says, for one who reads it and has no use for its faults. A text without RAMs that the reader takes says
+-- the netlist that the reader makes of it.
 use Rattle.std.specs.Prelude.{◌≡◌, ℕ, ◌+◌, ◌-◌, ◌==◌, Bool, false, ◌||◌, List, [], ◌∷◌, ◌++◌, length, take, drop, fold, replicate, position, nat_le, slice_set, Option, Some, None, option_map, Ok, if◌then◌else◌, codes, bytes_eq}
 use Rattle.std.specs.Option.{option_and_then}
 use Rattle.ice_base.specs.Lists.{with_name}
@@ -16,8 +16,8 @@ use Rattle.ice_blif.specs.Gates.{gate_kind_of, gate_place, gate_outs, with_param
 use Rattle.ice_blif.specs.State.{OpenCover, LastCell, Nothing, Gate, Rows, named, signal_of, with_cover_row, with_kind, finished}
 use Rattle.ice_blif.specs.Continued.{continued}
 use Rattle.ice_blif.specs.Covers.{level_of_word}
-use Rattle.ice_blif.specs.Grammar.{netlist_of}
 use Rattle.ice_blif.specs.Registers.{taken_apart}
+use Rattle.ice_ram_read.specs.ClosedNetlists.{closed_netlist_of, without_rams}
 
 -- ---- lines
 -- a line before joined ones: where it goes on, and this is in front of its backslash, it has the words of the next one too
@@ -73,11 +73,11 @@ gate_joins line gate last c = (
   }),
 )
 
--- `.gate KIND FORMAL=ACTUAL ..`
+-- `.gate KIND FORMAL=ACTUAL ..`; no gate has more than 76 ports
 abbrev pub gate_directive : ℕ → List (List ℕ) → NetSoFar → Option NetSoFar
 gate_directive line [] r = None
 gate_directive line (kind ∷ connections) r =
-    option_and_then (λ gate. option_map (gate_joins line gate r.1) (connections_join gate connections (r.0, replicate 11 None))) (gate_kind_of kind)
+    option_and_then (λ gate. option_map (gate_joins line gate r.1) (connections_join gate connections (r.0, replicate 76 None))) (gate_kind_of kind)
 
 -- ---- covers
 abbrev pub signal_joins : Wiring → List ℕ → Wiring
@@ -147,6 +147,6 @@ blif_lines_join ((line, first ∷ others) ∷ more) =
 abbrev pub netlist_in : List ℕ → Option NetlistData
 netlist_in text = option_map taken_apart (blif_lines_join (joined_lines (numbered 1 (lines text))))
 
--- a text that the reader takes says the netlist that the reader makes of it
+-- a text without RAMs that the reader takes says the netlist that the reader makes of it
 abbrev pub NetlistTextsSayNetlists : Type 0
-NetlistTextsSayNetlists = (text : List ℕ) (n : NetlistData) → netlist_of text ≡ Ok n → netlist_in text ≡ Some n
+NetlistTextsSayNetlists = (text : List ℕ) (n : NetlistData) → closed_netlist_of text ≡ Ok (without_rams n) → netlist_in text ≡ Some n

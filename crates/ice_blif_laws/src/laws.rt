@@ -19,7 +19,7 @@ pub fn read_names_are_known()
     ensures { ReadNamesAreKnown }
 {}
 
-/// A netlist text that the reader takes says the netlist that the reader makes of it.
+/// A netlist text without RAMs that the reader takes says the netlist that the reader makes of it.
 pub fn netlist_texts_say_netlists()
     ensures { NetlistTextsSayNetlists }
 {}

@@ -14,7 +14,7 @@ use Rattle.ice_blif.specs.declared.fault.BlifFault.{BlifFault}
 use Rattle.ice_blif.specs.Cells.{◌>>=◌, kind_says}
 use Rattle.ice_blif.specs.GateForms.{GateForm}
 use Rattle.ice_blif.specs.Gates.{plain_gate, gate_kind_of}
-use Rattle.ice_blif.specs.Grammar.{no_wiring, cell_of, with_last, gate_of_kind, line_says, no_limits}
+use Rattle.ice_blif.specs.Grammar.{no_wiring, cell_of, with_last, gate_of_kind, line_says, no_rams}
 use Rattle.ice_blif.specs.State.{LastCell, Gate, with_kind}
 use Rattle.ice_blif.specs.Reading.{Connections, NetReading}
 use Rattle.ice_blif_write.specs.RoundTrip.{IsName, named_signal, IsDefined}
@@ -102,11 +102,11 @@ next_known names read front rest ins outs k m e o know later =
 pub gate_read : (names : List (List ℕ)) (r : NetReading) (word : List ℕ) (kind : CellKind) (formals : List (List ℕ)) (ins outs : List (Option SignalNo)) (k : ℕ)
     → gate_kind_of word ≡ Some (plain_gate kind) → ArePlaced kind 0 formals → length ins ≡ ins_count kind → length outs ≡ outs_count kind → ins_count kind + outs_count kind ≡ length formals → length formals ≤ 10
     → AreActuals names kind 0 (ins ++ outs)
-    → (m : NetlistData) × (cell : Cell) × (line_says no_limits (numbered_line k (codes ".gate", word ∷ connections names formals (ins ++ outs))) r ≡ Ok (with_last m r.last (Gate cell) false))
+    → (m : NetlistData) × (cell : Cell) × (line_says no_rams (numbered_line k (codes ".gate", word ∷ connections names formals (ins ++ outs))) r ≡ Ok (with_last m r.last (Gate cell) false))
     × IsGateRead names r kind ins outs m cell
 gate_read names r word kind formals ins outs k is placed in_long out_long long few are =
     let all_long : length (ins ++ outs) ≡ length formals = length-append ins outs ∙ omega (arith, in_long, out_long, long) in
-    let read = signals_read names k kind r.netlist no_wiring [] (ins ++ outs) 0 11 formals placed all_long refl (omega (arith, all_long, few)) are (none_wired names r.netlist.names) in
+    let read = signals_read names k kind r.netlist no_wiring [] (ins ++ outs) 0 76 formals placed all_long refl (omega (arith, all_long, few)) are (none_wired names r.netlist.names) in
     let c : NetlistData × Connections = read.0 in
     let are_read : AreRead names r.netlist (ins ++ outs) read.1 c = read.3 in
     let wiring : IsWired names c.0.names c.1 (ins ++ outs) read.1 = are_read.wired in
@@ -114,8 +114,8 @@ gate_read names r word kind formals ins outs k is placed in_long out_long long f
     let cell : Cell = cell_of k (plain_gate kind) c.1 in (
       c.0,
       cell,
-      ap (λ (o : Option GateForm). gate_of_kind k r ws o >>= no_limits k) is
-          ∙ ap (λ (x : Result (NetlistData × Connections) BlifFault). (x >>= (λ d. Ok (with_last d.0 r.last (Gate (cell_of k (plain_gate kind) d.1)) false))) >>= no_limits k) read.2,
+      ap (λ (o : Option GateForm). gate_of_kind k r word ws o >>= no_rams k) is
+          ∙ ap (λ (x : Result (NetlistData × Connections) BlifFault). (x >>= (λ d. Ok (with_last d.0 r.last (Gate (cell_of k (plain_gate kind) d.1)) false))) >>= no_rams k) read.2,
       record {
         grew = record { grows = are_read.grows; ports = are_read.ports; cells = are_read.cells };
         kind_is = refl;
@@ -132,6 +132,6 @@ abbrev pub at_gate : NetlistData → Cell → NetReading
 at_gate n cell = record { netlist = n; last = Gate cell; rows = false }
 
 pub param_read : (n : NetlistData) (cell : Cell) (name value : List ℕ) (now : CellKind) (k : ℕ) → kind_says k cell.kind name (value ∷ []) ≡ Ok now
-    → line_says no_limits (numbered_line k (param_line name value)) (at_gate n cell) ≡ Ok (at_gate n (with_kind cell now))
+    → line_says no_rams (numbered_line k (param_line name value)) (at_gate n cell) ≡ Ok (at_gate n (with_kind cell now))
 param_read n cell name value now k says =
-    ap (λ (x : Result CellKind BlifFault). ((x >>= (λ kind. Ok (Gate (with_kind cell kind)))) >>= (λ (last : LastCell). Ok (record { netlist = n; last = last; rows = false }))) >>= no_limits k) says
+    ap (λ (x : Result CellKind BlifFault). ((x >>= (λ kind. Ok (Gate (with_kind cell kind)))) >>= (λ (last : LastCell). Ok (record { netlist = n; last = last; rows = false }))) >>= no_rams k) says

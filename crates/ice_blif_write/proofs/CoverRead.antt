@@ -11,7 +11,7 @@ use Rattle.ice_blif.specs.Cells.{◌>>=◌, level_alone, row_and_level, row_part
 use Rattle.ice_blif.specs.Covers.{level_of_word}
 use Rattle.ice_blif.specs.State.{named, signal_of, OpenCover, Rows, with_cover_row}
 use Rattle.ice_blif.specs.Reading.{NetReading}
-use Rattle.ice_blif.specs.Grammar.{new_cover, cover_signals, cover_of, with_last, row_or_fault, directive_says, line_says, no_limits}
+use Rattle.ice_blif.specs.Grammar.{new_cover, cover_signals, cover_of, with_last, row_or_fault, directive_says, line_says, no_rams}
 use Rattle.ice_blif_write.specs.RoundTrip.{named_signal}
 use Rattle.ice_blif_write.specs.Text.{Words, name_of, signal_words, digit_of, levels_of, row_line, rows_from}
 use Rattle.ice_blif_write.proofs.CellRead.{first_known, rest_known}
@@ -93,7 +93,7 @@ pub record IsCoverRead (names : List (List ℕ)) (r : NetReading) (ins outs : Li
   pub covered : c.covered ≡ 0
 
 pub cover_read : (names : List (List ℕ)) (r : NetReading) (ins outs : List (Option SignalNo)) (k : ℕ) → AreThere ins → AreThere outs → length ins ≤ 4 → length outs ≡ 1
-    → (m : NetlistData) × (c : OpenCover) × (line_says no_limits (numbered_line k (codes ".names", flat_map (signal_words names) (ins ++ outs))) r ≡ Ok (with_last m r.last (Rows c) true))
+    → (m : NetlistData) × (c : OpenCover) × (line_says no_rams (numbered_line k (codes ".names", flat_map (signal_words names) (ins ++ outs))) r ≡ Ok (with_last m r.last (Rows c) true))
     × IsCoverRead names r ins outs m c
 cover_read names r ins outs k ins_there outs_there narrow one =
     let all_long : length (ins ++ outs) ≡ length ins + 1 = length-append ins outs ∙ ap (λ n. length ins + n) one in
@@ -110,8 +110,8 @@ cover_read names r ins outs k ins_there outs_there narrow one =
     let outs_known : Know c.0.names (drop (length ins) c.1) (map (named_signal names) outs) = rest_known names c.0.names c.1 ins outs (length ins) refl is.know in (
       c.0,
       cover,
-      ap (λ (x : Result (NetlistData × List (Option SignalNo)) BlifFault). (x >>= (λ d. cover_of k r d.0 d.1)) >>= no_limits k) read.1
-          ∙ ap (λ (x : Result NetReading BlifFault). x >>= no_limits k) (some_cover k r c.0 c.1 (omega (arith, long))),
+      ap (λ (x : Result (NetlistData × List (Option SignalNo)) BlifFault). (x >>= (λ d. cover_of k r d.0 d.1)) >>= no_rams k) read.1
+          ∙ ap (λ (x : Result NetReading BlifFault). x >>= no_rams k) (some_cover k r c.0 c.1 (omega (arith, long))),
       record {
         grew = is.grew;
         long = length-take (length c.1 - 1) c.1 ∙ omega (arith, long);
@@ -156,16 +156,16 @@ row_said c width j k first others long parts agree =
     ∙ ap (λ b. if b then Ok (with_cover_row c row true) else Err (BadCover k)) agree
 
 row_read : (n : NetlistData) (c : OpenCover) (width j k : ℕ) → length c.ins ≡ width → agrees c.level true ≡ true
-    → line_says no_limits (numbered_line k (row_line width j)) (at_cover n c) ≡ Ok (at_cover n (with_cover_row c (levels_of width j) true))
+    → line_says no_rams (numbered_line k (row_line width j)) (at_cover n c) ≡ Ok (at_cover n (with_cover_row c (levels_of width j) true))
 row_read n c zero j k long agree =
-    ap (λ (x : Result OpenCover BlifFault). (x >>= (λ d. Ok (at_cover n d))) >>= no_limits k) (row_said c zero j k (codes "1") [] long refl agree)
+    ap (λ (x : Result OpenCover BlifFault). (x >>= (λ d. Ok (at_cover n d))) >>= no_rams k) (row_said c zero j k (codes "1") [] long refl agree)
 row_read n c (suc width) j k long agree =
     let first : List ℕ = levels_of (suc width) j in
     let others : List (List ℕ) = codes "1" ∷ [] in
     let no_dot : (digit_of (j % 2) == 46) ≡ false = (let ne : digit_of (j % 2) ≢ 46 = omega arith in search (rules, tests)) in
     let some : (suc width == 0) ≡ false = search (rules, tests) in
-    ap (λ b. (if b then directive_says k (at_cover n c) first others else row_or_fault k (at_cover n c) first others) >>= no_limits k) no_dot
-    ∙ ap (λ (x : Result OpenCover BlifFault). (x >>= (λ d. Ok (at_cover n d))) >>= no_limits k) (row_said c (suc width) j k first others long (ap (λ b. if b then level_alone first others else row_and_level first others) some) agree)
+    ap (λ b. (if b then directive_says k (at_cover n c) first others else row_or_fault k (at_cover n c) first others) >>= no_rams k) no_dot
+    ∙ ap (λ (x : Result OpenCover BlifFault). (x >>= (λ d. Ok (at_cover n d))) >>= no_rams k) (row_said c (suc width) j k first others long (ap (λ b. if b then level_alone first others else row_and_level first others) some) agree)
 
 -- no row is `.end`; 46 is the dot
 row_no_end : (width j : ℕ) → bytes_eq (row_line width j).0 (codes ".end") ≡ false

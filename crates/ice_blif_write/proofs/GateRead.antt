@@ -19,6 +19,7 @@ use Rattle.ice_blif.specs.State.{named, signal_of}
 use Rattle.ice_blif.specs.Reading.{Connections}
 use Rattle.ice_blif.specs.Grammar.{no_wiring, wired, is_missing, connect, connect_at, connect_by, equals_at, connection_says, connections_say}
 use Rattle.ice_blif.specs.declared.fault.BlifFault.TheVariants.{PortTwice}
+use Rattle.ice_blif.specs.Formals.{of_gate}
 use Rattle.ice_blif_write.specs.RoundTrip.{IsName, named_signal}
 use Rattle.ice_blif_write.specs.Text.{name_of, connections, port_names, kind_word}
 use Rattle.ice_blif_write.proofs.NamesRead.{Grows, grows_same, grows_more, grows_name, Know, know_later, know_more, know_name}
@@ -131,7 +132,7 @@ pub record IsWired (names read : List (List ℕ)) (w : Connections) (done : List
   pub know : Know read front (map (named_signal names) done)
   pub twice : w.twice ≡ false
 
-pub none_wired : (names read : List (List ℕ)) → IsWired names read no_wiring [] 11
+pub none_wired : (names read : List (List ℕ)) → IsWired names read no_wiring [] 76
 none_wired names read = record { front = []; flags = []; signals = refl; taken = refl; long = refl; wide = refl; know = λ later. refl; twice = refl }
 
 push_at : {X : Type 0} (front : List X) (old new : X) (rest : List X) (k : ℕ) → length front ≡ k → slice_set (front ++ old ∷ rest) k new ≡ (front ++ new ∷ []) ++ rest
@@ -213,12 +214,12 @@ AreActuals names kind k [] = Unit {0}
 AreActuals names kind k (signal ∷ signals) = MayBeActual names (nat_le (ins_count kind) k) signal × AreActuals names kind (suc k) signals
 
 connected : (line : ℕ) (kind : CellKind) (n : NetlistData) (w : Connections) (formal actual : List ℕ) (place : ℕ) → list_all (λ b. not (b == 61)) formal ≡ true → port_place kind formal ≡ Some place
-    → connection_says line (plain_gate kind) n w (formal ++ 61 ∷ actual) ≡ Ok (connect n w place (nat_le (ins_count kind) place) actual)
+    → connection_says line (of_gate (plain_gate kind)) n w (formal ++ 61 ∷ actual) ≡ Ok (connect n w place (nat_le (ins_count kind) place) actual)
 connected line kind n w formal actual place plain at =
-    ap (connect_by line (plain_gate kind) n w (formal ++ 61 ∷ actual)) (formal_ends formal actual plain)
-    ∙ ap (λ a. connect_at line (plain_gate kind) n w a (port_place kind (take (length formal) (formal ++ 61 ∷ actual)))) (actual_behind formal actual)
-    ∙ ap (λ f. connect_at line (plain_gate kind) n w actual (port_place kind f)) (take-append_seam formal (61 ∷ actual))
-    ∙ ap (connect_at line (plain_gate kind) n w actual) at
+    ap (connect_by line (of_gate (plain_gate kind)) n w (formal ++ 61 ∷ actual)) (formal_ends formal actual plain)
+    ∙ ap (λ a. connect_at line (of_gate (plain_gate kind)) n w a (port_place kind (take (length formal) (formal ++ 61 ∷ actual)))) (actual_behind formal actual)
+    ∙ ap (λ f. connect_at line (of_gate (plain_gate kind)) n w actual (port_place kind f)) (take-append_seam formal (61 ∷ actual))
+    ∙ ap (connect_at line (of_gate (plain_gate kind)) n w actual) at
 
 named_connect : (n : NetlistData) (w : Connections) (place : ℕ) (output : Bool) (actual : List ℕ) → is_missing output actual ≡ false
     → connect n w place output actual ≡ (named n actual, wired w place (Some (signal_of n actual)))
@@ -227,7 +228,7 @@ named_connect n w place output actual e = ap (λ (b : Bool). (if b then n else n
 -- all signals of a gate
 pub signals_read : (names : List (List ℕ)) (line : ℕ) (kind : CellKind) (n : NetlistData) (w : Connections) (done signals : List (Option SignalNo)) (place left : ℕ) (formals : List (List ℕ))
     → ArePlaced kind place formals → length signals ≡ length formals → length done ≡ place → length signals ≤ left → AreActuals names kind place signals → IsWired names n.names w done left
-    → (c : NetlistData × Connections) × (rest : ℕ) × (connections_say line (plain_gate kind) n w (connections names formals signals) ≡ Ok c) × AreRead names n (done ++ signals) rest c
+    → (c : NetlistData × Connections) × (rest : ℕ) × (connections_say line (of_gate (plain_gate kind)) n w (connections names formals signals) ≡ Ok c) × AreRead names n (done ++ signals) rest c
 signals_read names line kind n w done [] place left [] is same at fits are wiring = (
   (n, w),
   left,
@@ -251,13 +252,13 @@ signals_read names line kind n w done (Some signal ∷ signals) place (suc left)
     let v : Connections = wired w place (Some (signal_of n name)) in
     let later = signals_read names line kind m v (done ++ Some signal ∷ []) signals (suc place) left formals is.2 (omega arith) (length-append done (Some signal ∷ []) ∙ omega arith) (omega arith) are.1
     (join_wired names n.names w done left place signal wiring at) in
-    let first : connection_says line (plain_gate kind) n w (formal ++ 61 ∷ name) ≡ Ok (m, v) =
+    let first : connection_says line (of_gate (plain_gate kind)) n w (formal ++ 61 ∷ name) ≡ Ok (m, v) =
     connected line kind n w formal name place is.1 is.0
     ∙ ap Ok (named_connect n w place (nat_le (ins_count kind) place) name (appears (nat_le (ins_count kind) place) name are.0.name are.0.defined)) in
     let read : AreRead names m ((done ++ Some signal ∷ []) ++ signals) later.1 later.0 = later.3 in (
       later.0,
       later.1,
-      ap (λ r. r >>= (λ c. connections_say line (plain_gate kind) c.0 c.1 (connections names formals signals))) first ∙ later.2,
+      ap (λ r. r >>= (λ c. connections_say line (of_gate (plain_gate kind)) c.0 c.1 (connections names formals signals))) first ∙ later.2,
       record {
         grows = grows_more n.names (with_name n.names name) later.0.0.names (grows_name n.names name) read.grows;
         ports = read.ports;

@@ -18,7 +18,7 @@ use Rattle.ice_blif.specs.declared.fault.BlifFault.TheVariants.{PortTwice}
 use Rattle.ice_blif.specs.Cells.{◌>>=◌}
 use Rattle.ice_blif.specs.State.{signal_of, Nothing}
 use Rattle.ice_blif.specs.Reading.{NetReading}
-use Rattle.ice_blif.specs.Grammar.{was_named, with_named_port, port_says, without_rows, line_says, no_limits}
+use Rattle.ice_blif.specs.Grammar.{was_named, with_named_port, port_says, without_rows, line_says, no_rams}
 use Rattle.ice_blif_write.specs.RoundTrip.{named_port}
 use Rattle.ice_blif_write.specs.Text.{Words, name_of, port_lines_by, port_lines}
 use Rattle.ice_blif_write.proofs.NamesRead.{Grows, grows_name, with_name_behind, number_has_name}
@@ -118,16 +118,16 @@ other_way line m name none =
 
 -- ---- a line
 abbrev directive_line : ℕ → NetlistData → Way → List ℕ → Result NetReading BlifFault
-directive_line k m way name = (((port_says k way m name >>= (λ n. Ok n)) >>= (λ n. Ok (without_rows n Nothing))) >>= no_limits k)
+directive_line k m way name = (((port_says k way m name >>= (λ n. Ok n)) >>= (λ n. Ok (without_rows n Nothing))) >>= no_rams k)
 
-in_line : (k : ℕ) (m : NetlistData) (name : List ℕ) → line_says no_limits (numbered_line k (codes ".inputs", name ∷ [])) (at_ports m) ≡ directive_line k m Input name
+in_line : (k : ℕ) (m : NetlistData) (name : List ℕ) → line_says no_rams (numbered_line k (codes ".inputs", name ∷ [])) (at_ports m) ≡ directive_line k m Input name
 in_line k m name = refl
 
-out_line : (k : ℕ) (m : NetlistData) (name : List ℕ) → line_says no_limits (numbered_line k (codes ".outputs", name ∷ [])) (at_ports m) ≡ directive_line k m Output name
+out_line : (k : ℕ) (m : NetlistData) (name : List ℕ) → line_says no_rams (numbered_line k (codes ".outputs", name ∷ [])) (at_ports m) ≡ directive_line k m Output name
 out_line k m name = refl
 
 said_line : (k : ℕ) (way : Way) (m n : NetlistData) (name : List ℕ) → port_says k way m name ≡ Ok n → directive_line k m way name ≡ Ok (at_ports n)
-said_line k way m n name says = ap (λ (x : Result NetlistData BlifFault). ((x >>= (λ n. Ok n)) >>= (λ n. Ok (without_rows n Nothing))) >>= no_limits k) says
+said_line k way m n name says = ap (λ (x : Result NetlistData BlifFault). ((x >>= (λ n. Ok n)) >>= (λ n. Ok (without_rows n Nothing))) >>= no_rams k) says
 
 ways_read : (n m : NetlistData) (name : List ℕ) (way : Way) (rest : List Words) → IsNoPort (number_of_name m.names name) m.ports → Ends n (at_ports (port_joined m name way)) rest
     → Ends n (at_ports m) (port_lines_by name way ++ rest)

@@ -8,9 +8,9 @@ use Rattle.ice_net.specs.declared.port.Port.{Port}
 use Rattle.ice_net.specs.NetlistData.{NetlistData}
 use Rattle.ice_blif.specs.declared.fault.BlifFault.{BlifFault}
 use Rattle.ice_blif.specs.Cells.{◌>>=◌}
-use Rattle.ice_blif.specs.Grammar.{line_says, model_says, no_limits, ended}
+use Rattle.ice_blif.specs.Grammar.{line_says, model_says, ended, no_rams}
 use Rattle.ice_blif.specs.JoinedLines.{FilledLine}
-use Rattle.ice_blif.specs.State.{LastCell, Nothing, Gate, Rows, finished, cover_cell}
+use Rattle.ice_blif.specs.State.{LastCell, Nothing, Gate, Rows, finished, cover_cell, Memory}
 use Rattle.ice_blif.specs.Reading.{NetReading}
 use Rattle.ice_blif_write.specs.RoundTrip.{named_signal, named_port, NamedCell, named_cell, IsSameByNames}
 use Rattle.ice_blif_write.specs.Text.{Words}
@@ -23,16 +23,16 @@ numbered_line k ws = record { number = k; first = ws.0; others = ws.1 }
 
 -- from a reader on, the lines end in this netlist, up to line numbers and the list of names
 abbrev pub Ends : NetlistData → NetReading → List Words → Type 0
-Ends n r wss = (last k : ℕ) → (m : NetlistData) × (model_says no_limits last r (lines_from k wss) ≡ Ok m) × IsSameByNames n m
+Ends n r wss = (last k : ℕ) → (m : NetlistData) × (model_says no_rams last r (lines_from k wss) ≡ Ok m) × IsSameByNames n m
 
 -- one line more
 pub ends_line : (n : NetlistData) (r : NetReading) (s : ℕ → NetReading) (ws : Words) (wss : List Words) → bytes_eq ws.0 (codes ".end") ≡ false
-    → ((k : ℕ) → line_says no_limits (numbered_line k ws) r ≡ Ok (s k)) → ((k : ℕ) → Ends n (s k) wss) → Ends n r (ws ∷ wss)
+    → ((k : ℕ) → line_says no_rams (numbered_line k ws) r ≡ Ok (s k)) → ((k : ℕ) → Ends n (s k) wss) → Ends n r (ws ∷ wss)
 ends_line n r s ws wss other says later last k =
     let end = later k last (next_number k) in (
       end.0,
-      ap (λ b. if b then ended r (lines_from (next_number k) wss) else line_says no_limits (numbered_line k ws) r >>= (λ t. model_says no_limits last t (lines_from (next_number k) wss))) other
-          ∙ ap (λ (x : Result NetReading BlifFault). x >>= (λ t. model_says no_limits last t (lines_from (next_number k) wss))) (says k) ∙ end.1,
+      ap (λ b. if b then ended r (lines_from (next_number k) wss) else line_says no_rams (numbered_line k ws) r >>= (λ t. model_says no_rams last t (lines_from (next_number k) wss))) other
+          ∙ ap (λ (x : Result NetReading BlifFault). x >>= (λ t. model_says no_rams last t (lines_from (next_number k) wss))) (says k) ∙ end.1,
       end.2,
     )
 
@@ -45,15 +45,18 @@ pub record HasRead (n : NetlistData) (ps : List Port) (cs : List Cell) (r : NetR
 pub finished_names : (m : NetlistData) (last : LastCell) → (finished m last).names ≡ m.names
 finished_names m Nothing = refl
 finished_names m (Gate cell) = refl
+finished_names m Memory = refl
 finished_names m (Rows cover) = refl
 
 pub finished_ports : (m : NetlistData) (last : LastCell) → (finished m last).ports ≡ m.ports
 finished_ports m Nothing = refl
 finished_ports m (Gate cell) = refl
+finished_ports m Memory = refl
 finished_ports m (Rows cover) = refl
 
 pub finished_cells : (m n : NetlistData) (last : LastCell) → m.cells ≡ n.cells → (finished m last).cells ≡ (finished n last).cells
 finished_cells m n Nothing e = e
+finished_cells m n Memory e = e
 finished_cells m n (Gate cell) e = ap (λ cells. cells ++ cell ∷ []) e
 finished_cells m n (Rows cover) e = ap (λ cells. cells ++ cover_cell cover ∷ []) e
 

@@ -8,7 +8,7 @@ use Rattle.ice_net.specs.declared.cell.Cell.{Cell}
 use Rattle.ice_net.specs.declared.port.Port.{Port}
 use Rattle.ice_net.specs.Formed.{IsBelow, IsPortBelow, IsFormedCell}
 use Rattle.ice_net.specs.NetlistData.{NetlistData, empty_netlist}
-use Rattle.ice_blif.specs.Grammar.{no_limits, lines_say}
+use Rattle.ice_blif.specs.Grammar.{lines_say, no_rams}
 use Rattle.ice_blif.specs.JoinedLines.{FilledLine, last_number}
 use Rattle.ice_blif.specs.State.{finished}
 use Rattle.ice_blif.specs.Reading.{NetReading}
@@ -74,4 +74,4 @@ text_read n formed small single writable =
     let raw : NetlistData = result.0 in
     let whole : AllByRecursion IsWhole raw.cells =
     all_whole n.names raw.names raw.cells n.cells (length n.names) result.2.cells (recursion_from_All IsPlainCell n.cells writable.plain) cells in
-    (raw, (raw, ap (λ (ls : List FilledLine). lines_say no_limits last ls) (text_lines (netlist_lines n) are) ∙ result.1, taken_plain raw whole), result.2)
+    (raw, (raw, ap (λ (ls : List FilledLine). lines_say no_rams last ls) (text_lines (netlist_lines n) are) ∙ result.1, taken_plain raw whole), result.2)

@@ -10,7 +10,7 @@ use Rattle.ice_net.specs.declared.port.Port.{Port}
 use Rattle.ice_net.specs.declared.port.Way.{Way}
 use Rattle.ice_net.specs.Formed.{IsFormed, IsSingle}
 use Rattle.ice_net.specs.NetlistData.{NetlistData}
-use Rattle.ice_blif.specs.Grammar.{HasNetlist}
+use Rattle.ice_blif.specs.Grammar.{HasNetlistAlone}
 use Rattle.ice_blif_write.specs.Text.{name_of, blif_text}
 
 -- ---- what can be written
@@ -90,9 +90,9 @@ pub record IsSameByNames (n m : NetlistData) : Type 0 where
   pub ports : map (named_port m.names) m.ports ≡ map (named_port n.names) n.ports
   pub cells : map (named_cell m.names) m.cells ≡ map (named_cell n.names) n.cells
 
--- the text has this netlist up to line numbers and the list of names
+-- the text has this netlist up to line numbers and the list of names, and no RAM
 abbrev pub HasSameNetlist : List ℕ → NetlistData → Type 0
-HasSameNetlist text n = (m : NetlistData) × HasNetlist text m × IsSameByNames n m
+HasSameNetlist text n = (m : NetlistData) × HasNetlistAlone text m × IsSameByNames n m
 
 -- the text that is written for a netlist has this netlist
 abbrev pub WrittenIsRead : Type 0

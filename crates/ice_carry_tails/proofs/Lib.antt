@@ -1,8 +1,6 @@
 pub mod Added
 pub mod NewDrivers
-mod NewValues
 mod NewSteps
-pub mod NewSound
 pub mod Taken
 pub mod NewFormed
 mod Grown

@@ -2,35 +2,26 @@
 use Rattle.std.proofs.Common.{◌≡◌, ℕ, zero, suc, ◌+◌, ◌<◌, ◌≤◌, Option, None, Some, List, [], ◌∷◌, ◌++◌, length, map, take, All, refl, sym, subst, arith, length-append, bytes_eq, codes, false}
 use Rattle.std.specs.List.{IsDistinct, AllByRecursion}
 use Rattle.std.proofs.lemmas.List.{length-map, append_cancel_right}
-use Rattle.std.proofs.lemmas.List.Elements.{All-weaker, All-append, All-nil, All-cons, All-head, All-tail}
+use Rattle.std.proofs.lemmas.List.Elements.{All-weaker, All-append, All-head, All-tail}
 use Rattle.std.proofs.lemmas.Map.Keys.{IsDistinct-head, IsDistinct-tail, IsDistinct-cons, IsDistinct-from_apart}
 use Rattle.ice_base.specs.declared.number.SignalNo.{SignalNo}
 use Rattle.ice_base.proofs.TextLines.{all_append}
 use Rattle.ice_base_values.specs.Order.{At}
 use Rattle.ice_net.specs.declared.cell.Cell.{Cell}
+use Rattle.ice_net.specs.declared.kind.CellKind.TheVariants.{Carry}
 use Rattle.ice_net.specs.declared.port.Port.{Port}
 use Rattle.ice_net.specs.NetlistData.{NetlistData}
 use Rattle.ice_net.specs.Formed.{IsBelow, IsPortBelow, IsFormedCell, IsFormed}
 use Rattle.ice_net.proofs.NetlistLaws.{formed_more}
+use Rattle.ice_net_additions.proofs.AddedCells.{added_formed}
 use Rattle.ice_net_additions.proofs.AddedNames.{differ, differing, one_below}
-use Rattle.ice_carry_tails.specs.Tails.{tail_name, tail_names, tail, tails, read_behind, with_tails}
+use Rattle.ice_carry_tails.specs.Tails.{tail_name, tail_names, tails, read_behind, with_tails}
 use Rattle.ice_carry_tails.specs.TailLaws.{CanTakeTails}
 use Rattle.ice_carry_tails.specs.Tailable.{IsPlainName}
 use Rattle.ice_carry_tails.proofs.Added.{Ins, length_tails}
 use Rattle.ice_carry_tails.proofs.Taken.{in_use}
 
 -- ---- cells
-IsThree : Ins → Type 0
-IsThree ins = length ins ≡ 3
-
-tails_formed : (most next : ℕ) (lists : List Ins) → ((j : ℕ) (ins : Ins) → At lists j ins → All (IsBelow most) ins) → ((j : ℕ) (ins : Ins) → At lists j ins → length ins ≡ 3)
-    → next + length lists ≤ most → All (IsFormedCell most) (tails next lists)
-tails_formed most next [] below three room = All-nil (IsFormedCell most)
-tails_formed most next (ins ∷ lists) below three room =
-    All-cons (IsFormedCell most) (tail next ins) (tails (next + 1) lists)
-    (record { ins_long = three 0 ins refl; outs_long = refl; ins_below = below 0 ins refl; outs_below = one_below most next (omega (arith, room)); kind = tt })
-    (tails_formed most (next + 1) lists (λ j ins at. below (suc j) ins at) (λ j ins at. three (suc j) ins at) (omega (arith, room)))
-
 below_more : (a b : ℕ) → a ≤ b → (x : Option SignalNo) → IsBelow a x → IsBelow b x
 below_more a b le None below = tt
 below_more a b le (Some signal) below = omega (arith, le, below)
@@ -65,9 +56,14 @@ with_tails_formed n tables formed can cells_few =
           (All-append (IsFormedCell (length n.names + length tables)) n.cells (tails (length n.names) (map (read_behind n.cells) tables))
           (All-weaker (IsFormedCell (length n.names)) (IsFormedCell (length n.names + length tables))
           (λ (cell : Cell) h. formed_more (length n.names) (length n.names + length tables) (more (length n.names) (length tables)) cell h) n.cells formed.cells)
-          (tails_formed (length n.names + length tables) (length n.names) (map (read_behind n.cells) tables)
-          (λ j ins at. All-weaker (IsBelow (length n.names)) (IsBelow (length n.names + length tables)) (below_more (length n.names) (length n.names + length tables) (more (length n.names) (length tables))) ins (reads_used.below j ins at))
-          (λ j ins at. three_read n.cells tables j ins at)
+          (added_formed Carry (length n.names + length tables) (length n.names) (map (read_behind n.cells) tables)
+          (λ j out ins at lt. record {
+            ins_long = three_read n.cells tables j ins at;
+            outs_long = refl;
+            ins_below = All-weaker (IsBelow (length n.names)) (IsBelow (length n.names + length tables)) (below_more (length n.names) (length n.names + length tables) (more (length n.names) (length tables))) ins (reads_used.below j ins at);
+            outs_below = one_below (length n.names + length tables) out lt;
+            kind = tt;
+          })
           (omega (arith, reads))));
     }
   where

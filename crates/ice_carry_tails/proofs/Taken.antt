@@ -18,10 +18,10 @@ use Rattle.ice_check.specs.Faults.{uses_of}
 use Rattle.ice_check.proofs.ListsBelow.{at_below}
 use Rattle.ice_check.proofs.Places.{wire, has_place}
 use Rattle.ice_check.proofs.Uses.{used_at}
+use Rattle.ice_net_additions.proofs.GrownSound.{AreInUse}
 use Rattle.ice_carry_tails.specs.Tails.{tail_name, tail_names, behind, read_behind}
 use Rattle.ice_carry_tails.specs.TailLaws.{is_lut, IsTableAt, CanTakeTails}
 use Rattle.ice_carry_tails.proofs.Added.{Ins}
-use Rattle.ice_carry_tails.proofs.NewSound.{AreInUse}
 
 -- ---- the three inputs
 pub behind_below : (count : ℕ) (ins : Ins) → All (IsBelow count) ins → All (IsBelow count) (behind ins)

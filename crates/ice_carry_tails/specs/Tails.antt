@@ -1,11 +1,12 @@
 -- The ends of carry chains. Where a look-up table alone reads a carry, by its last input, a carry is added that reads what the table reads at its
 -- other inputs but the first, and that carry. It shares the table's logic cell, so that the cell is the next of the run, and reads the carry from within.
-use Rattle.std.specs.Prelude.{ℕ, ◌+◌, List, [], ◌∷◌, ◌++◌, codes, length, map, take, Option, None, Some, slice_get, slice_index_or}
+use Rattle.std.specs.Prelude.{ℕ, ◌+◌, List, [], ◌∷◌, ◌++◌, codes, length, map, take, Option, None, slice_get, slice_index_or}
 use Rattle.std.specs.Option.{option_map_or}
 use Rattle.ice_base.specs.declared.number.SignalNo.{SignalNo}
 use Rattle.ice_net.specs.declared.cell.Cell.{Cell}
 use Rattle.ice_net.specs.declared.kind.CellKind.TheVariants.{Carry}
 use Rattle.ice_net.specs.NetlistData.{NetlistData}
+use Rattle.ice_net_additions.specs.AddedCells.{added_cell, added_cells}
 
 -- ---- names
 -- a name that no text has
@@ -17,14 +18,13 @@ abbrev pub tail_names : List (List ℕ) → ℕ → List (List ℕ)
 tail_names names count = map tail_name (take count names)
 
 -- ---- cells
--- a carry that reads these signals and drives one that nothing reads; it stands in no line of a text
+-- a carry that reads these signals and drives one that nothing reads
 abbrev pub tail : ℕ → List (Option SignalNo) → Cell
-tail out ins = record { kind = Carry; line = 0; ins = ins; outs = Some (record { 0 = out }) ∷ [] }
+tail out ins = added_cell Carry out ins
 
 -- one for each of these lists of inputs: the first drives the signal `next`, and so on
 abbrev pub tails : ℕ → List (List (Option SignalNo)) → List Cell
-tails next [] = []
-tails next (ins ∷ others) = tail next ins ∷ tails (next + 1) others
+tails next lists = added_cells Carry next lists
 
 -- what the carry at a table reads: what the table does at its second, third and last input
 abbrev pub behind : List (Option SignalNo) → List (Option SignalNo)

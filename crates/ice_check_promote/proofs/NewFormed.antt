@@ -1,9 +1,10 @@
 -- A netlist with buffers is well formed.
-use Rattle.std.proofs.Common.{◌≡◌, ℕ, suc, ◌+◌, ◌<◌, ◌≤◌, Option, None, Some, List, [], ◌∷◌, length, map, All, refl, sym, ◌∙◌, subst, arith, length-append}
+use Rattle.std.proofs.Common.{◌≡◌, ℕ, ◌+◌, ◌<◌, ◌≤◌, Option, None, Some, List, [], ◌∷◌, length, map, All, refl, sym, ◌∙◌, subst, arith, length-append}
 use Rattle.std.proofs.lemmas.List.{length-map}
-use Rattle.std.proofs.lemmas.List.Elements.{All-map, All-weaker, All-append, All-nil, All-cons, All-head, All-tail}
+use Rattle.std.proofs.lemmas.List.Elements.{All-map, All-weaker, All-append, All-cons, All-head, All-tail}
 use Rattle.ice_base.specs.declared.number.SignalNo.{SignalNo}
 use Rattle.ice_base_values.specs.Order.{At}
+use Rattle.ice_base_values.proofs.Members.{map_At}
 use Rattle.ice_net.specs.declared.cell.Cell.{Cell}
 use Rattle.ice_net.specs.declared.kind.CellKind.{CellKind}
 use Rattle.ice_net.specs.declared.kind.CellKind.TheVariants.{Lut, Cover, Carry, Flop, PadCell, Global}
@@ -11,8 +12,10 @@ use Rattle.ice_net.specs.declared.port.Port.{Port}
 use Rattle.ice_net.specs.NetlistData.{NetlistData}
 use Rattle.ice_net.specs.Formed.{IsBelow, IsPortBelow, IsFormedCell, IsFormed}
 use Rattle.ice_net.proofs.NetlistLaws.{formed_more}
+use Rattle.ice_net_additions.specs.AddedCells.{added_cell}
+use Rattle.ice_net_additions.proofs.AddedCells.{added_formed}
 use Rattle.ice_net_additions.proofs.AddedNames.{one_below}
-use Rattle.ice_check_promote.specs.Promoted.{buffered_pin, buffered_first, buffered_ins, buffered_cell, buffer, buffers, with_buffers, promoted_clocks, promoted}
+use Rattle.ice_check_promote.specs.Promoted.{buffered_pin, buffered_first, buffered_ins, buffered_cell, reads_clock, buffers, with_buffers, promoted_clocks, promoted}
 use Rattle.ice_check_promote.proofs.Buffers.{length_buffers, buffered_below}
 use Rattle.ice_check_promote.proofs.NewDrivers.{length_names}
 use Rattle.ice_check_promote.proofs.Clocks.{clock_below, few_clocks}
@@ -50,11 +53,12 @@ module _ (count : ℕ) (clocks : List ℕ) where
   cell_formed Global line ins outs h = h
 
 buffers_formed : (most next : ℕ) (clocks : List ℕ) → ((j clock : ℕ) → At clocks j clock → clock < most) → next + length clocks ≤ most → All (IsFormedCell most) (buffers next clocks)
-buffers_formed most next [] below room = All-nil (IsFormedCell most)
-buffers_formed most next (c ∷ clocks) below room =
-    All-cons (IsFormedCell most) (buffer c next) (buffers (next + 1) clocks)
-    (record { ins_long = refl; outs_long = refl; ins_below = one_below most c (below 0 c refl); outs_below = one_below most next (omega (arith, room)); kind = tt })
-    (buffers_formed most (next + 1) clocks (λ j clock at. below (suc j) clock at) (omega (arith, room)))
+buffers_formed most next clocks below room =
+    added_formed Global most next (map reads_clock clocks)
+    (λ j out ins at lt. let found = map_At reads_clock clocks j ins at in
+    subst (λ (xs : List (Option SignalNo)). IsFormedCell most (added_cell Global out xs)) found.2
+    (record { ins_long = refl; outs_long = refl; ins_below = one_below most found.0 (below j found.0 found.1); outs_below = one_below most out lt; kind = tt }))
+    (let long = length-map clocks reads_clock in omega (arith, long, room))
 
 pub with_buffers_formed : (n : NetlistData) (clocks : List ℕ) → IsFormed n → ((j clock : ℕ) → At clocks j clock → clock < length n.names)
     → length n.names + length clocks ≤ 1073741823 → length n.cells + length clocks ≤ 1073741823 → IsFormed (with_buffers n clocks)

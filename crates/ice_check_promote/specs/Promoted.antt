@@ -9,6 +9,7 @@ use Rattle.ice_net.specs.NetlistData.{NetlistData}
 use Rattle.ice_net.specs.Drivers.{output_of}
 use Rattle.ice_net.specs.Limits.{most_signals}
 use Rattle.ice_check.specs.Tables.{times}
+use Rattle.ice_net_additions.specs.AddedCells.{added_cell, added_cells}
 
 -- ---- which clocks
 -- the signal at the clock input of a flip-flop; other cells have none
@@ -78,13 +79,16 @@ buffered_ins next clocks Global ins = ins
 abbrev pub buffered_cell : ℕ → List ℕ → Cell → Cell
 buffered_cell next clocks cell = record cell { ins = buffered_ins next clocks cell.kind cell.ins }
 
--- a global buffer, which stands in no line of a text
+-- what the buffer of a clock reads
+abbrev pub reads_clock : ℕ → List (Option SignalNo)
+reads_clock clock = Some (record { 0 = clock }) ∷ []
+
+-- a global buffer
 abbrev pub buffer : ℕ → ℕ → Cell
-buffer clock out = record { kind = Global; line = 0; ins = Some (record { 0 = clock }) ∷ []; outs = Some (record { 0 = out }) ∷ [] }
+buffer clock out = added_cell Global out (reads_clock clock)
 
 abbrev pub buffers : ℕ → List ℕ → List Cell
-buffers next [] = []
-buffers next (clock ∷ clocks) = buffer clock next ∷ buffers (next + 1) clocks
+buffers next clocks = added_cells Global next (map reads_clock clocks)
 
 -- the netlist with a buffer for each of these clocks
 abbrev pub with_buffers : NetlistData → List ℕ → NetlistData

@@ -6,6 +6,9 @@ mod Once
 mod ReadForms
 mod FaultLines
 mod FirstFaults
+mod PlainWords
 mod PlainRows
+mod Numbers
 mod Fronts
+mod BitFronts
 mod PlainLines

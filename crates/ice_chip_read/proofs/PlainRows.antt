@@ -1,25 +1,25 @@
 -- A row of switches in the form in which databases have it says what its words say.
-use Rattle.std.proofs.Common.{◌≡◌, ◌≢◌, ℕ, zero, suc, ◌+◌, ◌-◌, ◌<◌, ◌^◌, ◌==◌, ◌&&◌, Bool, true, false, Option, None, Some, IfSome, is_some, is_ok, List, [], ◌∷◌, ◌++◌, length, take, drop, get_or, map, Result, Ok, Err, nat_le, nat_lt, if◌then◌else◌, refl, sym, ap, subst, ◌∙◌, arith, rules, tests, true≢false, length-take, take-append-drop}
+use Rattle.std.proofs.Common.{◌≡◌, ℕ, ◌<◌, ◌^◌, ◌==◌, ◌&&◌, Bool, true, false, Option, None, Some, IfSome, is_some, List, [], ◌∷◌, ◌++◌, length, map, Result, Ok, Err, nat_le, nat_lt, if◌then◌else◌, refl, sym, ap, subst, ◌∙◌, rules, tests, true≢false}
 use Rattle.std.specs.Char.{is_ascii_digit}
 use Rattle.std.specs.List.{AllByRecursion}
 use Rattle.std.specs.Str.{all_ascii_digits}
 use Rattle.std.proofs.lemmas.Bool.{and_parts}
-use Rattle.std.proofs.lemmas.List.{drop_more}
 use Rattle.ice_base.specs.Places.{digit_value, values_in}
 use Rattle.ice_base.specs.Text.{begins_with, uncommented, words, ends_word, decimal_value, is_number, number_in}
-use Rattle.ice_base.specs.Lines.{IsWord}
+use Rattle.ice_base.specs.Lines.{IsLine, IsWord}
 use Rattle.ice_base.specs.Lists.{all_known}
-use Rattle.ice_base.proofs.Cuts.{tail_is}
 use Rattle.ice_base.proofs.Digits.{number_is}
 use Rattle.ice_base.proofs.TextLaws.{first_word, last_word}
 use Rattle.ice_chip.specs.declared.fault.ChipFault.{ChipFault}
 use Rattle.ice_chip_read.specs.Faults.{◌>>=◌}
+use Rattle.ice_chip_read.specs.Fronts.{IsRowAhead, IsTaken}
 use Rattle.ice_chip_read.specs.Lines.{known_values, chip_line_says, row_says, switch_row, values_at, wire_in}
 use Rattle.ice_chip_read.specs.PlainRows.{IsCutRow, row_joins, row_comes}
 use Rattle.ice_chip_read.specs.Reading.{Reading}
 use Rattle.ice_chip_read.specs.Views.{Gives}
 use Rattle.ice_chip_read.specs.declared.fault.ChipStop.{ChipStop}
 use Rattle.ice_chip_read.specs.declared.section.Section.TheVariants as section
+use Rattle.ice_chip_read.proofs.PlainWords.{line_of_word, space_in_line}
 use Rattle.ice_chip_read.proofs.Results.{some_mapped}
 
 -- a byte that ends no word and begins neither a comment nor a heading
@@ -98,7 +98,7 @@ two_words digits word first second =
     ∙ (rw (first.no_comment, second.no_comment) refl)
 
 -- ---- rows
-next_alike : {A B : Type 0} (m : Result A ChipFault) (f g : A → Result B ChipFault) → ((x : A) → f x ≡ g x) → m >>= f ≡ m >>= g
+pub next_alike : {A B : Type 0} (m : Result A ChipFault) (f g : A → Result B ChipFault) → ((x : A) → f x ≡ g x) → m >>= f ≡ m >>= g
 next_alike (Ok x) f g same = same x
 next_alike (Err fault) f g same = refl
 
@@ -128,37 +128,18 @@ cut_row_says r line text digits values source opened cut are =
     ∙ row_is r line digits cut.word opened first.no_heading
     ∙ switch_says r line digits cut.word values source cut.count are cut.number
 
-are_known : (line : ℕ) (o : Option (List Bool)) (values : List Bool) → known_values line o ≡ Ok values → o ≡ Some values
-are_known line None values e = absurd (true≢false (sym (ap is_ok e)))
-are_known line (Some found) values e = ap (λ m. ok_or_none m) e
-  where
-    ok_or_none : Result (List Bool) ChipFault → Option (List Bool)
-    ok_or_none (Ok found) = Some found
-    ok_or_none (Err fault) = None
+row_line : (bits : ℕ) (text digits : List ℕ) (source : ℕ) (values : List Bool) → IsCutRow bits text digits source → values_in digits ≡ Some values → IsLine text
+row_line bits text digits source values cut are =
+    let first : IsPlainWord digits = digits_plain digits values (subst (λ n. 0 < n) (sym cut.count) cut.some) are in
+    let second : IsPlainWord cut.word = number_plain cut.word source cut.number in
+    subst IsLine (sym cut.whole) (space_in_line digits cut.word (line_of_word digits first.word) (line_of_word cut.word second.word))
 
--- what a line in this form says
-said_by : (r : Reading) (line bits : ℕ) (text digits : List ℕ) (values : List Bool) (source : ℕ) → r.open_section ≡ section.Switches → bits ≡ length r.group.bits → IsCutRow bits text digits source
-    → known_values line (values_in digits) ≡ Ok values → chip_line_says r line (uncommented (words text)) ≡ row_comes r line values source
-said_by r line bits text digits values source opened count cut are =
-    cut_row_says r line text digits values source opened (subst (λ n. IsCutRow n text digits source) count cut) (are_known line (values_in digits) values are)
-
-pub row_said : {X : Type 0} (view : X → Reading) (result : Result X ChipStop) (r : Reading) (line bits : ℕ) (text digits : List ℕ) (values : List Bool) (source : ℕ) → r.open_section ≡ section.Switches
-    → bits ≡ length r.group.bits → IsCutRow bits text digits source → known_values line (values_in digits) ≡ Ok values → Gives view result (row_comes r line values source)
-    → Gives view result (chip_line_says r line (uncommented (words text)))
-row_said view result r line bits text digits values source opened count cut are gives =
-    subst (Gives view result) (sym (said_by r line bits text digits values source opened count cut are)) gives
-
-positive : (n : ℕ) → n ≢ 0 → 0 < n
-positive zero some = absurd (some refl)
-positive (suc n) some = omega arith
-
--- the parts of a line in this form, as the reader cuts it
-pub row_is_cut : (bits : ℕ) (text : List ℕ) (source : ℕ) → bits ≢ 0 → bits < length text → get_or text bits 0 ≡ 32 → number_in (take (length text - (bits + 1)) (drop (bits + 1) text)) ≡ Some source
-    → IsCutRow bits text (take bits text) source
-row_is_cut bits text source some within space number = record {
-  some = positive bits some;
-  count = omega (arith, length-take bits text, within);
-  word = drop (bits + 1) text;
-  whole = sym (take-append-drop bits text) ∙ ap (λ rest. take bits text ++ rest) (drop_more text bits 0 within ∙ ap (λ b. b ∷ drop (bits + 1) text) space);
-  number = ap number_in (sym (tail_is text (bits + 1))) ∙ number;
+pub row_taken : {X : Type 0} (r new : Reading) (number bits : ℕ) (text digits : List ℕ) (source : ℕ) (rest : List ℕ) (values : List Bool) (answer : Result X ChipStop) → r.open_section ≡ section.Switches
+    → bits ≡ length r.group.bits → IsRowAhead bits text digits source rest → values_in digits ≡ Some values → Gives (λ _. new) answer (row_comes r number values source) → IsTaken r new number text answer rest
+row_taken r new number bits text digits source rest values answer opened count ahead are gives = record {
+  line = ahead.line;
+  whole = ahead.whole;
+  ends = row_line bits ahead.line digits source values ahead.cut are;
+  says = subst (Gives (λ _. new) answer)
+      (sym (cut_row_says r number ahead.line digits values source opened (subst (λ n. IsCutRow n ahead.line digits source) count ahead.cut) are)) gives;
 }

@@ -7,3 +7,4 @@ pub mod Stops
 pub mod Views
 pub mod FirstFault
 pub mod PlainRows
+pub mod Fronts

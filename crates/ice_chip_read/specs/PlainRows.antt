@@ -3,11 +3,12 @@ use Rattle.std.specs.Prelude.{◌≡◌, ℕ, ◌<◌, ◌⊎◌, List, [], ◌�
 use Rattle.std.specs.Map.{lookup}
 use Rattle.ice_base.specs.Text.{begins_with, number_in}
 use Rattle.ice_base.specs.Lines.{IsWord}
+use Rattle.ice_base.specs.declared.bit.BitAt.{BitAt}
 use Rattle.ice_chip.specs.Limits.{most_rows}
 use Rattle.ice_chip.specs.declared.fault.ChipFault.{ChipFault}
 use Rattle.ice_chip.specs.declared.fault.ChipFault.TheVariants.{TooMany}
 use Rattle.ice_chip_read.specs.Faults.{◌>>=◌}
-use Rattle.ice_chip_read.specs.Lines.{group_bits, tile_in, unseen, wire_in, with_group, with_net, with_row}
+use Rattle.ice_chip_read.specs.Lines.{tile_in, unseen, wire_in, with_group, with_net, with_row}
 use Rattle.ice_chip_read.specs.Reading.{Reading}
 
 -- a row joins the group that is open, where there are not too many rows
@@ -48,11 +49,6 @@ pub record IsPlainName (name : List ℕ) : Type 0 where
   pub word : IsWord name
   pub no_comment : begins_with 35 name ≡ false
 
--- the name is these bytes, and they are such a word
-pub record IsNameIn (text name : List ℕ) : Type 0 where
-  pub same : name ≡ text
-  pub plain : IsPlainName text
-
 -- the line is two numbers and a name
 pub record IsCutName (text : List ℕ) (at : ℕ × ℕ) (name : List ℕ) : Type 0 where
   pub behind : List ℕ
@@ -65,11 +61,10 @@ pub record IsCutName (text : List ℕ) (at : ℕ × ℕ) (name : List ℕ) : Typ
 abbrev pub net_comes : Reading → ℕ → ℕ → Result Reading ChipFault
 net_comes r line wire = wire_in line r.parts wire >>= (λ wire. unseen line (lookup (nat_eq wire) r.nets) >>= (λ u. Ok (with_net r line wire)))
 
--- a group begins
-abbrev pub group_comes : Reading → ℕ → ℕ × ℕ × ℕ → List (List ℕ) → Result Reading ChipFault
-group_comes r line numbers ws =
-    tile_in line r.parts numbers.0 numbers.1 >>= (λ tile. wire_in line r.parts numbers.2 >>= (λ wire.
-    group_bits line ws >>= (λ bits. Ok (with_group r line tile wire bits))))
+-- a group of these bits begins
+abbrev pub group_stands : Reading → ℕ → ℕ × ℕ × ℕ → List BitAt → Result Reading ChipFault
+group_stands r line numbers bits =
+    tile_in line r.parts numbers.0 numbers.1 >>= (λ tile. wire_in line r.parts numbers.2 >>= (λ wire. Ok (with_group r line tile wire bits)))
 
 -- the line is `.net` and the number of a wire
 pub record IsCutNet (text : List ℕ) (wire : ℕ) : Type 0 where

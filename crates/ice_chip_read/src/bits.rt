@@ -1,5 +1,5 @@
 //! Names of configuration bits, and values of rows.
-ghost use Rattle.std.specs.Prelude.{◌≤◌, length};
+ghost use Rattle.std.specs.Prelude.{◌≡◌, IfSome, Some};
 ghost use Rattle.ice_base.specs.Places.{bits_named, values_in};
 ghost use Rattle.ice_chip_read.specs.Lines.{bits_at, group_bits, values_at, known_values};
 ghost use Rattle.ice_chip_read.specs.Views.{Gives};
@@ -8,6 +8,9 @@ use crate::ChipStop;
 use ice_base::{PlainWords, bit_named, digit_value};
 use ice_chip::{BitList, ChipFault, ValueList};
 use std::alloc::Global;
+
+// How many values a row has at most that need no memory of their own.
+const FEW_VALUES: usize = 8;
 
 /// The places of the bits with these names, among 16 rows and so many columns.
 #[tactic(auto, using(ice_base::proofs::KnownLists::all_begin, ice_base::proofs::KnownLists::known_joins))]
@@ -40,26 +43,27 @@ pub fn group_bits(alloc: Global, line: u32, names: PlainWords<'_>) -> Result<Bit
     Ok(bits)
 }
 
-// The values that at most eight digits write, which need no memory of their own.
-#[tactic(auto, using(ice_base::proofs::KnownLists::all_begin, ice_base::proofs::KnownLists::value_stops))]
-fn few_values(alloc: Global, line: u32, digits: &[u8]) -> Result<ValueList, ChipStop>
-    requires { length digits.now ≤ 8 }
-    ensures { Gives (λ values. values.items) result (known_values line (values_in digits.now)) }
+/// The values that at most eight digits write, which need no memory of their own; nothing where one is no digit of a value, or
+/// there are more.
+#[inline(always)]
+#[tactic(auto, using(ice_base::proofs::KnownLists::all_begin))]
+pub fn few_values(alloc: Global, digits: &[u8]) -> Option<ValueList>
+    ensures { IfSome result (λ values. values_in digits.now ≡ Some values.items) }
 {
-    let mut room = [false; 8];
-    for k in 0..digits.len() {
-        let Some(value) = digit_value(digits[k]) else {
-            return Err(ChipStop::Fault(ChipFault::BadValues { line }));
-        };
-        room[k] = value;
+    if digits.len() > FEW_VALUES {
+        return None;
     }
-    let values = ValueList::from_slice(alloc, &room[..digits.len()])?;
-    Ok(values)
+    let mut values = ValueList::new(alloc);
+    for digit in digits {
+        let value = digit_value(*digit)?;
+        values.push_reserved(value);
+    }
+    Some(values)
 }
 
-// The values that so many digits write.
+// The values that these digits write.
 #[tactic(auto, using(ice_base::proofs::KnownLists::all_begin, ice_base::proofs::KnownLists::value_joins, ice_base::proofs::KnownLists::value_stops, ice_base::proofs::KnownLists::values_end))]
-fn many_values(alloc: Global, line: u32, digits: &[u8]) -> Result<ValueList, ChipStop>
+fn known_values(alloc: Global, line: u32, digits: &[u8]) -> Result<ValueList, ChipStop>
     ensures { Gives (λ values. values.items) result (known_values line (values_in digits.now)) }
 {
     let mut values = ValueList::with_capacity(alloc, digits.len())?;
@@ -70,16 +74,6 @@ fn many_values(alloc: Global, line: u32, digits: &[u8]) -> Result<ValueList, Chi
         values.push(value)?;
     }
     Ok(values)
-}
-
-/// The values that these digits write.
-pub fn known_values(alloc: Global, line: u32, digits: &[u8]) -> Result<ValueList, ChipStop>
-    ensures { Gives (λ values. values.items) result (known_values line (values_in digits.now)) }
-{
-    if digits.len() <= 8 {
-        return few_values(alloc, line, digits);
-    }
-    many_values(alloc, line, digits)
 }
 
 /// The values of a row, one for each of its group's bits.

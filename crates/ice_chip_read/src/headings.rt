@@ -1,5 +1,5 @@
 //! What the headings of sections say.
-ghost use Rattle.std.specs.Prelude.{◌≡◌};
+ghost use Rattle.std.specs.Prelude.{◌≡◌, OnOk};
 ghost use Rattle.ice_chip_read.specs.Lines.{
   sizes_in,
   begun_within,
@@ -12,8 +12,9 @@ ghost use Rattle.ice_chip_read.specs.Lines.{
   net_heading,
   switches_heading,
   heading_says,
+  with_group,
 };
-ghost use Rattle.ice_chip_read.specs.PlainRows.{group_comes, net_comes};
+ghost use Rattle.ice_chip_read.specs.PlainRows.{group_stands, net_comes};
 ghost use Rattle.ice_chip_read.specs.Views.{Says, Gives, reading_view};
 
 use crate::ChipStop;
@@ -22,8 +23,8 @@ use crate::ranges::{tile_in, wire_in};
 use crate::reading::{Reading, begin};
 use crate::section::{Heading, Section};
 use crate::words::{ended, number, one_word, three, two};
-use ice_base::{PlainWords, RowNo, WireNo, name_of};
-use ice_chip::{ChipFault, Group, Package, TileKind, TileLine};
+use ice_base::{NoMemory, PlainWords, RowNo, TileAt, WireNo, name_of};
+use ice_chip::{BitList, ChipFault, Group, Package, TileKind, TileLine};
 use indexmap::{IndexMap, IndexSet};
 use std::alloc::Global;
 
@@ -205,21 +206,18 @@ fn room_for_rows(bits: usize) -> usize {
     }
 }
 
-/// A group begins, at the place of these coordinates into the wire of this number, with the bits that these words name.
-pub fn begin_group(
+// A group of these bits opens, at a place into the wire of this number.
+fn open_group(
     alloc: Global,
     reading: &mut Reading,
     line: u32,
-    numbers: (u32, u32, u32),
-    words: PlainWords<'_>,
-) -> Result<(), ChipStop>
-    ensures { Gives (λ _. reading_view reading.new) result
-        (group_comes (reading_view reading.old) line numbers words.entry) }
+    tile: TileAt,
+    wire: u32,
+    bits: BitList,
+) -> Result<(), NoMemory>
+    ensures { OnOk result (reading_view reading.new
+        ≡ with_group (reading_view reading.old) line tile wire bits.items) }
 {
-    let (x, y, wire) = numbers;
-    let tile = tile_in(line, &reading.parts, x, y)?;
-    let wire = wire_in(line, &reading.parts, wire)?;
-    let bits = group_bits(alloc, line, words)?;
     let rows = Vec::with_capacity(alloc, room_for_rows(bits.len()))?;
     reading.group = Group {
         tile,
@@ -233,6 +231,24 @@ pub fn begin_group(
     Ok(())
 }
 
+/// A group of these bits begins, at the place of these coordinates into the wire of this number.
+pub fn begin_group(
+    alloc: Global,
+    reading: &mut Reading,
+    line: u32,
+    numbers: (u32, u32, u32),
+    bits: BitList,
+) -> Result<(), ChipStop>
+    ensures { Gives (λ _. reading_view reading.new) result
+        (group_stands (reading_view reading.old) line numbers bits.items) }
+{
+    let (x, y, wire) = numbers;
+    let tile = tile_in(line, &reading.parts, x, y)?;
+    let wire = wire_in(line, &reading.parts, wire)?;
+    open_group(alloc, reading, line, tile, wire, bits)?;
+    Ok(())
+}
+
 // `.buffer X Y DST B..` and `.routing X Y DST B..`
 fn switches_heading(
     alloc: Global,
@@ -243,8 +259,12 @@ fn switches_heading(
     ensures { Gives (λ _. reading_view reading.new) result
         (switches_heading (reading_view reading.old) line words.entry) }
 {
-    let numbers = three(line, &mut words)?;
-    begin_group(alloc, reading, line, numbers, words)
+    let (x, y, wire) = three(line, &mut words)?;
+    let tile = tile_in(line, &reading.parts, x, y)?;
+    let wire = wire_in(line, &reading.parts, wire)?;
+    let bits = group_bits(alloc, line, words)?;
+    open_group(alloc, reading, line, tile, wire, bits)?;
+    Ok(())
 }
 
 /// What a heading says, behind the section before.

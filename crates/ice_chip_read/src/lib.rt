@@ -19,4 +19,4 @@ pub use fault::ChipStop;
 pub use laws::says_chip_or_first_fault;
 pub use read::{finish, read_chip, take_first};
 pub use reading::Reading;
-pub use text::take_text;
+pub use text::{Taken, take_ahead, take_text};

@@ -229,6 +229,7 @@ fn name_row(
 }
 
 /// A row of these values from this source joins the group that is open.
+#[inline(always)]
 pub fn push_row(
     reading: &mut Reading,
     line: u32,

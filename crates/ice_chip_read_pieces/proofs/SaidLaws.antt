@@ -1,11 +1,12 @@
 -- What lines say, line after line.
-use Rattle.std.proofs.Common.{rules, ◌≡◌, ℕ, Option, None, Some, List, [], ◌∷◌, ◌++◌, Result, Ok, Err, refl, sym, ap, subst, ◌∙◌, append-nil}
+use Rattle.std.proofs.Common.{rules, ◌≡◌, ℕ, Option, None, Some, List, [], ◌∷◌, ◌++◌, Result, Ok, Err, is_ok, true≢false, refl, sym, ap, subst, ◌∙◌, append-nil}
 use Rattle.ice_base.specs.Text.{words, uncommented, with_words}
 use Rattle.ice_chip.specs.Answers.{chip_of, StopsBy}
 use Rattle.ice_chip.specs.Database.{Parts}
 use Rattle.ice_chip.specs.declared.fault.ChipFault.{ChipFault}
 use Rattle.ice_chip.specs.declared.fault.ChipFault.TheVariants.{NoDevice}
 use Rattle.ice_chip_read.specs.Faults.{◌>>=◌}
+use Rattle.ice_chip_read.specs.Fronts.{IsTaken}
 use Rattle.ice_chip_read.specs.Lines.{chip_line_says, chip_lines_say, first_says, plain_says}
 use Rattle.ice_chip_read.specs.Reading.{Reading, closed}
 use Rattle.ice_chip_read.specs.Stops.{fault_of}
@@ -13,7 +14,7 @@ use Rattle.ice_chip_read.specs.Views.{Stops}
 use Rattle.ice_chip_read.specs.Whole.{AreReadOfLines}
 use Rattle.ice_chip_read.specs.declared.fault.ChipStop.{ChipStop}
 use Rattle.ice_chip_read.specs.declared.fault.ChipStop.TheVariants.{NoMemory, Fault}
-use Rattle.ice_chip_read_pieces.specs.Held.{HasSaid}
+use Rattle.ice_chip_read_pieces.specs.Held.{HasSaid, IsLineTaken}
 use Rattle.ice_chip_read_pieces.specs.SoFar.{so_far, with_line, with_text, words_at}
 
 -- what is held of lines
@@ -76,6 +77,33 @@ pub stops_more : (stop : ChipStop) (ls : List WordLine) (number : ℕ) (ws : Lis
 stops_more NoMemory ls number ws h = tt
 stops_more (Fault fault) ls number [] h = ap so_far (append-nil ls) ∙ h
 stops_more (Fault fault) ls number (w ∷ ws) h = line_behind ls (number, w ∷ ws) ∙ ap (λ said. with_line said (number, w ∷ ws)) h
+
+-- a line at the front of a text, where lines before it had words
+taken_with : (r : Reading) (ls : List WordLine) (number : ℕ) (ws : List (List ℕ)) (said : Result Reading ChipFault) → so_far ls ≡ Ok (Some r) → chip_line_says r number ws ≡ said
+    → with_text (so_far ls) number ws ≡ said >>= (λ more. Ok (Some more))
+taken_with r ls number ws said h says = ap (λ s. with_text s number ws) h ∙ ap (λ m. m >>= (λ more. Ok (Some more))) says
+
+pub front_taken : {X : Type 0} (r new : Reading) (number : ℕ) (text rest : List ℕ) (x : X) → IsTaken r new number text (Ok x) rest → IsLineTaken (Ok (Some r)) (Ok (Some new)) number text rest
+front_taken r new number text rest x taken = record {
+  line = taken.line;
+  whole = taken.whole;
+  ends = taken.ends;
+  said = λ ls h. text_said (Ok (Some new)) ls number taken.line (taken_with r ls number (uncommented (words taken.line)) (Ok new) h taken.says);
+  stopped = λ stop is. absurd (true≢false (ap is_ok is));
+}
+
+stop_with : (r : Reading) (ls : List WordLine) (number : ℕ) (ws : List (List ℕ)) (stop : ChipStop) → so_far ls ≡ Ok (Some r) → Stops stop (chip_line_says r number ws) → Stops stop (with_text (so_far ls) number ws)
+stop_with r ls number ws NoMemory h says = tt
+stop_with r ls number ws (Fault fault) h says = taken_with r ls number ws (Err fault) h says
+
+pub front_stopped : {X : Type 0} (r new : Reading) (number : ℕ) (text rest : List ℕ) (stop : ChipStop) → IsTaken {X = X} r new number text (Err stop) rest → IsLineTaken (Ok (Some r)) (Err stop) number text rest
+front_stopped r new number text rest stop taken = record {
+  line = taken.line;
+  whole = taken.whole;
+  ends = taken.ends;
+  said = λ ls h. text_said (Err stop) ls number taken.line (stop_with r ls number (uncommented (words taken.line)) stop h taken.says);
+  stopped = λ other is. absurd (true≢false (ap is_ok is));
+}
 
 -- ---- all lines
 -- what is read where a chip text says this

@@ -1,6 +1,7 @@
 -- The texts for which a reader stands.
-use Rattle.std.specs.Prelude.{◌≡◌, ℕ, Option, List, length, Result, Ok, Err}
+use Rattle.std.specs.Prelude.{◌≡◌, ℕ, Option, List, [], ◌∷◌, ◌++◌, length, Result, Ok, Err}
 use Rattle.ice_chip.specs.declared.fault.ChipFault.{ChipFault}
+use Rattle.ice_desk_pieces.specs.Taken.{TakesMore}
 use Rattle.ice_chip_read.specs.Reading.{Reading}
 use Rattle.ice_chip_read.specs.declared.fault.ChipStop.TheVariants.{NoMemory}
 use Rattle.ice_chip_read_pieces.specs.Cut.{IsCut, number_behind}
@@ -35,3 +36,9 @@ pub record IsKept (text : List ℕ) (count : ℕ) : Type 0 where
   pub rest : List ℕ
   pub cut : IsCut text ended rest
   pub bytes : count ≡ kept_behind (lines_so_far ended) (length rest)
+
+-- a reader took the line at the front of a text, and this is what is behind its line feed
+pub record IsStep (old new : Held) (text rest : List ℕ) : Type 0 where
+  pub line : List ℕ
+  pub whole : text ≡ line ++ 10 ∷ rest
+  pub more : TakesMore (Follows old) (Follows new) (line ++ 10 ∷ [])

@@ -1,13 +1,13 @@
 //! A reader of the text of a chip database that is given the text piece by piece.
-ghost use Rattle.std.specs.Prelude.{◌≡◌, ℕ, List, [], ◌∷◌, ◌++◌, length, OnOk, OnErr, IfOk, IsErr, IsErrOf};
+ghost use Rattle.std.specs.Prelude.{◌≡◌, ℕ, List, [], ◌∷◌, ◌++◌, length, OnOk, OnErr, IfOk, IfNone, IfSome, IsErr, IsErrOf};
 ghost use Rattle.ice_base.specs.Lines.{IsLine};
 ghost use Rattle.ice_chip.specs.Answers.{Answers};
 ghost use Rattle.ice_chip_read.specs.Whole.{chip_says};
-ghost use Rattle.ice_chip_read_pieces.specs.Stands.{Follows, StandsFor, IsSpent, IsKept};
+ghost use Rattle.ice_chip_read_pieces.specs.Stands.{Follows, StandsFor, IsSpent, IsKept, IsStep};
 ghost use Rattle.ice_desk_pieces.specs.Taken.{TakesMore};
 
 use crate::cut::cut;
-use crate::said::{Said, stop, take};
+use crate::said::{Said, stop, take, take_front};
 use ice_base::NoMemory;
 use ice_chip::{Chip, ChipFault};
 use ice_chip_read::{ChipStop, finish};
@@ -82,8 +82,7 @@ impl ChipReader {
         ensures still { IsSpent self.old → IsErr result }
     {
         let mut left = piece;
-        while let Some((line, behind)) = cut(left) {
-            self.end_with(line);
+        while let Some(behind) = self.take_line(left) {
             left = behind;
         }
         self.keep(left);
@@ -164,6 +163,45 @@ impl ChipReader {
         );
         self.rest.clear();
         self.number = self.number.saturating_add(1);
+    }
+
+    // Takes the line at the front, where it has a form of the databases and no bytes of it came before: what is behind it.
+    #[inline(always)]
+    fn take_front<'a>(&mut self, bytes: &'a [u8]) -> Option<&'a [u8]>
+        ensures taken { IfSome result (λ rest. IsStep self.old self.new bytes.now rest.now) }
+        ensures same { IfNone result (self.new ≡ self.old) }
+        ensures out { IsSpent self.old → IsSpent self.new }
+    {
+        if !self.rest.is_empty() {
+            return None;
+        }
+        let rest = take_front(self.alloc, &mut self.said, self.number, bytes)?;
+        self.number = self.number.saturating_add(1);
+        Some(rest)
+    }
+
+    // Takes the line that ends first in these bytes, whatever its form: what is behind it.
+    fn take_whole<'a>(&mut self, bytes: &'a [u8]) -> Option<&'a [u8]>
+        ensures taken { IfSome result (λ rest. IsStep self.old self.new bytes.now rest.now) }
+        ensures same { IfNone result ((self.new ≡ self.old) × IsLine bytes.now) }
+        ensures out { IsSpent self.old → IsSpent self.new }
+    {
+        let (line, rest) = cut(bytes)?;
+        self.end_with(line);
+        Some(rest)
+    }
+
+    // Takes the line that ends first in these bytes: what is behind it. Where none ends there, nothing is taken.
+    #[inline(always)]
+    fn take_line<'a>(&mut self, bytes: &'a [u8]) -> Option<&'a [u8]>
+        ensures taken { IfSome result (λ rest. IsStep self.old self.new bytes.now rest.now) }
+        ensures same { IfNone result ((self.new ≡ self.old) × IsLine bytes.now) }
+        ensures out { IsSpent self.old → IsSpent self.new }
+    {
+        match self.take_front(bytes) {
+            Some(rest) => Some(rest),
+            None => self.take_whole(bytes),
+        }
     }
 
     // Takes the last bytes of the line that isn't ended, and ends it.

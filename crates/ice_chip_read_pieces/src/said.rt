@@ -1,14 +1,14 @@
 //! What lines of a chip text say so far.
-ghost use Rattle.std.specs.Prelude.{◌≡◌, ℕ, Option, None, Result, Ok, Err, List, ◌++◌};
+ghost use Rattle.std.specs.Prelude.{◌≡◌, ℕ, Option, None, Result, Ok, Err, List, ◌++◌, IfNone, IfSome};
 ghost use Rattle.ice_base.specs.Text.{uncommented, words};
 ghost use Rattle.ice_chip.specs.declared.fault.ChipFault.{ChipFault};
 ghost use Rattle.ice_chip_read.specs.Reading as lines;
 ghost use Rattle.ice_chip_read.specs.declared.fault.ChipStop.{ChipStop};
 ghost use Rattle.ice_chip_read_pieces.specs.SoFar.{so_far, with_text, words_at};
-ghost use Rattle.ice_chip_read_pieces.specs.Held.{HasSaid, said_view};
+ghost use Rattle.ice_chip_read_pieces.specs.Held.{HasSaid, IsLineTaken, said_view};
 
 use ice_base::{PlainLine, PlainWords, plain_words_of};
-use ice_chip_read::{ChipStop, Reading, take_first, take_text};
+use ice_chip_read::{ChipStop, Reading, take_ahead, take_first, take_text};
 use std::alloc::Global;
 use std::mem;
 
@@ -78,6 +78,32 @@ fn take_bytes(alloc: Global, said: &mut Said, number: u32, line: &[u8])
             }
         }
         Said::Stopped(_) => {}
+    }
+}
+
+/// The line at the front of a text, of this number, where it has one of the forms in which databases have most of their lines, and
+/// where lines before it had words: what is behind its line feed. Otherwise nothing is taken.
+#[inline(always)]
+pub fn take_front<'a>(
+    alloc: Global,
+    said: &mut Said,
+    number: u32,
+    text: &'a [u8],
+) -> Option<&'a [u8]>
+    ensures taken { IfSome result (λ rest.
+        IsLineTaken (said_view said.old) (said_view said.new) number text.now rest.now) }
+    ensures same { IfNone result (said_view said.new ≡ said_view said.old) }
+{
+    let Said::Rows(reading) = said else {
+        return None;
+    };
+    let (answer, rest) = take_ahead(alloc, reading, number, text)?;
+    match answer {
+        Ok(()) => Some(rest),
+        Err(fault) => {
+            stop(said, fault);
+            Some(rest)
+        }
     }
 }
 

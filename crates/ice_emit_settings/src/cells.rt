@@ -1,7 +1,6 @@
 //! The settings of cells.
-ghost use Rattle.std.specs.Prelude.{◌≡◌, ◌<◌, ◌++◌, slice_index_or, OnOk};
+ghost use Rattle.std.specs.Prelude.{◌≡◌, ◌<◌, ◌++◌, OnOk};
 ghost use Rattle.ice_chip.specs.Names.{cell_function};
-ghost use Rattle.ice_lut.specs.Tables.{table_places};
 ghost use Rattle.ice_net.specs.Meaning.{table_bit};
 ghost use Rattle.ice_emit_defs.specs.Functions.{setting_if, table_settings, reset_settings, flop_settings};
 ghost use Rattle.ice_emit_settings.specs.Cells.{entry_settings};
@@ -12,10 +11,8 @@ use ice_base::{NoMemory, TileAt};
 use ice_cells::{Control, LogicCell};
 use ice_chip::TileFunction;
 use ice_emit_bits::Setting;
+use ice_lut::entry_place;
 use ice_net::Reset;
-
-// Where each entry of a table stands among the bits of a cell.
-const ENTRY_PLACES: [u8; 16] = [4, 14, 15, 5, 6, 16, 17, 7, 3, 13, 12, 2, 1, 11, 10, 0];
 
 // The bit that enables the carry.
 const CARRY: u8 = 8;
@@ -35,14 +32,6 @@ fn digit(number: u16, place: u8) -> bool
     ensures { result ≡ table_bit number place }
 {
     (number >> u16::from(place)) & 1 == 1
-}
-
-// Where an entry stands.
-fn entry_place(entry: u8) -> u8
-    requires { entry < 16 }
-    ensures { result ≡ slice_index_or table_places entry 0 }
-{
-    ENTRY_PLACES[usize::from(entry)]
 }
 
 // Adds an entry of a table, where it is 1.

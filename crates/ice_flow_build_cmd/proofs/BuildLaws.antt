@@ -7,8 +7,7 @@ use Rattle.ice_base.specs.declared.number.WireNo.{WireNo}
 use Rattle.ice_asc.specs.Text.{asc_text}
 use Rattle.ice_desk.specs.Desk.{Meaning}
 use Rattle.ice_desk.specs.Changes.{SameButReading}
-use Rattle.ice_net.specs.NetlistData.{NetlistData}
-use Rattle.ice_blif.specs.Grammar.{netlist_of}
+use Rattle.ice_ram_read.specs.ClosedNetlists.{ClosedNetlistData, closed_netlist_of}
 use Rattle.ice_check.proofs.Faulty.{faulty}
 use Rattle.ice_check.specs.Refusals.{IsFaultOf}
 use Rattle.ice_check.specs.Sound.{IsSound}
@@ -19,13 +18,15 @@ use Rattle.ice_chip_read.specs.Whole.{chip_says}
 use Rattle.ice_core.specs.declared.log.RoundLog.{RoundLog}
 use Rattle.ice_pcf.specs.Grammar.{pin_text_says}
 use Rattle.ice_pcf.specs.declared.constraint.Constraint.{Constraint}
+use Rattle.ice_pads.specs.declared.fault.PinFault.{PinFault}
+use Rattle.ice_flow_prepare.specs.Prepared.{prepared_on}
 use Rattle.ice_report.specs.PinReport.{pin_text}
 use Rattle.ice_flow_build.specs.declared.answer.Effort.{Effort}
 use Rattle.ice_flow_frame.specs.Told.{Told as ToldOf, telling}
 use Rattle.ice_negotiate_defs.specs.declared.kept.Kept.{Kept}
 use Rattle.ice_words.specs.Grips.{Shut}
 use Rattle.ice_flow_build.specs.Answers.{pins_said, places_said, HasBadBits, HasPlaceFault, IsPlaceable}
-use Rattle.ice_flow_build.specs.Laid.{Task}
+use Rattle.ice_flow_build.specs.Laid.{Task, task_of}
 use Rattle.ice_flow_build.proofs.Answering.{pins_good, places_good, laid_placeable}
 use Rattle.ice_flow_frame.specs.declared.cause.Cause.{Cause}
 use Rattle.ice_flow_frame.specs.declared.cause.Cause.TheVariants.{Good, Usage, BadBlif, BadPcf, BadChip, BadNet, BadPin, Overfull, Unreachable, GaveUp, BadBits}
@@ -46,13 +47,14 @@ use Rattle.ice_flow_frame.proofs.Ended.{end_is_in_files}
 use Rattle.ice_flow_frame.proofs.Standings.{fault_alone, of_done}
 use Rattle.ice_flow_frame.proofs.TextFacts.{at_files, of_weaker, holds_read}
 use Rattle.ice_flow_build_cmd.specs.Asked.{Build, files_of, file_asked, outputs_of, parting_of, IsAsked, Asks, effort_of}
-use Rattle.ice_flow_build_cmd.specs.BuildRows.{ChipRow, PcfRow, HasPcfFault, BlifRow, HasBlifFault, SaysNetlist, NetRow, PinRow, PlaceRow, IsTried, TriedRow, BuiltRow, UnreachableRow, GaveUpRow, BitsRow, IsWritten, WrittenRow, HoldsReport, ReportedRow, IsBuildAnswer}
+use Rattle.ice_flow_build_cmd.specs.BuildRows.{ChipRow, PcfRow, HasPcfFault, BlifRow, HasBlifFault, SaysNetlist, NetRow, HasPinFault, PinRow, PlaceRow, IsTried, TriedRow, BuiltRow, UnreachableRow, GaveUpRow, BitsRow, IsWritten, WrittenRow, HoldsReport, ReportedRow, IsBuildAnswer}
 use Rattle.ice_flow_build_cmd.specs.Command.{build_files}
 use Rattle.ice_flow_build_cmd.specs.Former.{CausesHaveFormerRows}
 use Rattle.ice_flow_build_cmd.specs.Headline.{HeadlineRow}
 use Rattle.ice_flow_build_cmd.specs.Made.{IsMadeByBuild, IsBuiltOn, IsToldOn, IsStuckOn, IsGivenUpOn}
+use Rattle.ice_flow_build_cmd.specs.Rams.{rams_said}
 use Rattle.ice_flow_build_cmd.specs.Reports.{routes_text}
-use Rattle.ice_flow_build_cmd.specs.Standing.{IsEnd, PlacesStand, NetStands, BlifStands, PcfStands, StandsForBuild}
+use Rattle.ice_flow_build_cmd.specs.Standing.{IsEnd, PlacesStand, TaskStands, NetStands, BlifStands, PcfStands, StandsForBuild}
 use Rattle.ice_flow_build_cmd.proofs.Excluding.{built_not_stuck, built_not_given_up, given_up_not_stuck_on, stuck_on_one}
 use Rattle.ice_flow_build_cmd.proofs.Holding.{held_bits, held_pins, held_report}
 use Rattle.ice_flow_build_cmd.proofs.Shown.{made_shown, made_shown_exactly}
@@ -99,40 +101,52 @@ blif_row : (b : Build) (old new : Meaning) (cause : Cause) → IsTrueOf (build_f
 blif_row b old new cause is fault =
     comes (build_files b) old new cause (λ c. c ≡ BadBlif fault) (HasBlifFault fault) (lawful b) is
     (λ e. told_of b old new cause (BadBlif fault) (HasBlifFault fault) is e (λ i. i.0) (λ t h. h))
-    (λ t h m. fault_alone (netlist_of (text_at t 3)) BadBlif (NetStands b.package_name (effort_of b) h.0 h.1) fault cause h.3
+    (λ t h m. fault_alone (closed_netlist_of (text_at t 3)) BadBlif (NetStands b.package_name (effort_of b) h.0 h.1) fault cause h.3
     (blif_stands b.package_name (effort_of b) t h.0 h.1 cause h.2 m))
 
 -- ---- the netlist
-unsound_alone : (name : List ℕ) (effort : Effort) (parts : Parts) (constraints : List Constraint) (circuit : NetlistData) (cause : Cause) → (IsSound circuit → ⊥)
+unsound_alone : (name : List ℕ) (effort : Effort) (parts : Parts) (constraints : List Constraint) (circuit : ClosedNetlistData) (cause : Cause) → (IsSound circuit.netlist → ⊥)
     → NetStands name effort parts constraints circuit cause → TellsNetFault cause
 unsound_alone name effort parts constraints circuit cause unsound (inl bad) = (bad.0, bad.1)
 unsound_alone name effort parts constraints circuit cause unsound (inr good) = absurd (unsound good.0)
 
-abbrev IsFaulty : NetFault → NetlistData → Type 0
-IsFaulty fault circuit = IsFaultOf circuit fault × (fault ≢ net_fault.NoMemory)
+abbrev IsFaulty : NetFault → ClosedNetlistData → Type 0
+IsFaulty fault circuit = IsFaultOf circuit.netlist fault × (fault ≢ net_fault.NoMemory)
 
-netlist_weaker : (P Q : NetlistData → Type 0) (t : List (List ℕ)) → ((circuit : NetlistData) → P circuit → Q circuit) → SaysNetlist P t → SaysNetlist Q t
+netlist_weaker : (P Q : ClosedNetlistData → Type 0) (t : List (List ℕ)) → ((circuit : ClosedNetlistData) → P circuit → Q circuit) → SaysNetlist P t → SaysNetlist Q t
 netlist_weaker P Q t weaker h = record { parts = h.parts; constraints = h.constraints; circuit = h.circuit; is_read = h.is_read; is_circuit = h.is_circuit; is_so = weaker h.circuit h.is_so }
 
 net_row : (b : Build) (old new : Meaning) (cause : Cause) → IsTrueOf (build_files b) old new cause → NetRow b old cause
 net_row b old new cause is = record {
-  comes = comes (build_files b) old new cause TellsNetFault (SaysNetlist (λ circuit. IsSound circuit → ⊥)) (lawful b) is
-      (λ f. told_of b old new cause (BadNet f.0) (SaysNetlist (λ circuit. IsSound circuit → ⊥)) is f.1 (λ i. i.0)
-      (λ t h. netlist_weaker (IsFaulty f.0) (λ circuit. IsSound circuit → ⊥) t (λ circuit bad. faulty circuit f.0 bad.1 bad.0) h))
+  comes = comes (build_files b) old new cause TellsNetFault (SaysNetlist (λ circuit. IsSound circuit.netlist → ⊥)) (lawful b) is
+      (λ f. told_of b old new cause (BadNet f.0) (SaysNetlist (λ circuit. IsSound circuit.netlist → ⊥)) is f.1 (λ i. i.0)
+      (λ t h. netlist_weaker (IsFaulty f.0) (λ circuit. IsSound circuit.netlist → ⊥) t (λ circuit bad. faulty circuit.netlist f.0 bad.1 bad.0) h))
       (λ t h m. unsound_alone b.package_name (effort_of b) h.parts h.constraints h.circuit cause h.is_so
       (net_stands b.package_name (effort_of b) t h.parts h.constraints h.circuit cause h.is_read h.is_circuit m));
   fault_is = λ fault e.
-      told_of b old new cause (BadNet fault) (SaysNetlist (λ circuit. IsFaultOf circuit fault)) is e (λ i. i.0)
-      (λ t h. netlist_weaker (IsFaulty fault) (λ circuit. IsFaultOf circuit fault) t (λ circuit bad. bad.0) h);
+      told_of b old new cause (BadNet fault) (SaysNetlist (λ circuit. IsFaultOf circuit.netlist fault)) is e (λ i. i.0)
+      (λ t h. netlist_weaker (IsFaulty fault) (λ circuit. IsFaultOf circuit.netlist fault) t (λ circuit bad. bad.0) h);
 }
 
 -- ---- pins and places
+-- RAMs are told alone
+rams_alone : (name : List ℕ) (effort : Effort) (parts : Parts) (constraints : List Constraint) (circuit : ClosedNetlistData) (fault : PinFault) (cause : Cause) → IsSound circuit.netlist
+    → rams_said circuit ≡ Err fault → NetStands name effort parts constraints circuit cause → cause ≡ BadPin fault
+rams_alone name effort parts constraints circuit fault cause sound said (inl bad) = absurd (faulty circuit.netlist bad.0 bad.3 bad.2 sound)
+rams_alone name effort parts constraints circuit fault cause sound said (inr good) =
+    fault_alone (rams_said circuit) BadPin (λ netlist. TaskStands (task_of parts name constraints (prepared_on parts netlist)) effort) fault cause said good.1
+
+pin_fault_alone : (b : Build) (t : List (List ℕ)) (fault : PinFault) (cause : Cause) → HasPinFault b.package_name fault t → StandsForBuild b.package_name (effort_of b) t cause → cause ≡ BadPin fault
+pin_fault_alone b t fault cause (inl rams) m =
+    rams_alone b.package_name (effort_of b) rams.parts rams.constraints rams.circuit fault cause rams.is_so.0 rams.is_so.1
+    (net_stands b.package_name (effort_of b) t rams.parts rams.constraints rams.circuit cause rams.is_read rams.is_circuit m)
+pin_fault_alone b t fault cause (inr pins) m =
+    fault_alone (pins_said pins.task) BadPin (λ pads. PlacesStand pins.task (effort_of b)) fault cause pins.is_so (task_stands b.package_name (effort_of b) t pins.task cause pins.is_asked m)
+
 pin_row : (b : Build) (old new : Meaning) (cause : Cause) → IsTrueOf (build_files b) old new cause → PinRow b old cause
 pin_row b old new cause is fault =
-    comes (build_files b) old new cause (λ c. c ≡ BadPin fault) (Asks b.package_name (λ task. pins_said task ≡ Err fault)) (lawful b) is
-    (λ e. told_of b old new cause (BadPin fault) (Asks b.package_name (λ task. pins_said task ≡ Err fault)) is e (λ i. i.0) (λ t h. h))
-    (λ t h m. fault_alone (pins_said h.task) BadPin (λ pads. PlacesStand h.task (effort_of b)) fault cause h.is_so
-    (task_stands b.package_name (effort_of b) t h.task cause h.is_asked m))
+    comes (build_files b) old new cause (λ c. c ≡ BadPin fault) (HasPinFault b.package_name fault) (lawful b) is
+    (λ e. told_of b old new cause (BadPin fault) (HasPinFault b.package_name fault) is e (λ i. i.0) (λ t h. h)) (λ t h m. pin_fault_alone b t fault cause h m)
 
 place_row : (b : Build) (old new : Meaning) (cause : Cause) → IsTrueOf (build_files b) old new cause → PlaceRow b old cause
 place_row b old new cause is fault =

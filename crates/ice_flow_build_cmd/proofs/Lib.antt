@@ -1,3 +1,4 @@
+pub mod Unclosed
 pub mod Standing
 pub mod Excluding
 pub mod Telling

@@ -1,5 +1,5 @@
 -- From what building answers to what the texts give, or why they are refused.
-use Rattle.std.proofs.Common.{◌≡◌, ◌≢◌, ◌∙◌, ℕ, Bool, true, false, Option, Some, None, List, length, map, Result, Ok, Err, IfOk, IfErr, inl, inr, refl, sym, ap, subst}
+use Rattle.std.proofs.Common.{◌≡◌, ◌≢◌, ◌⊎◌, ◌∙◌, ℕ, Bool, true, false, Option, Some, None, List, length, map, Result, Ok, Err, IfOk, IfErr, inl, inr, refl, sym, ap, subst}
 use Rattle.std.specs.Prelude.{◌<◌, option_map}
 use Rattle.std.specs.Global.{Vec}
 use Rattle.std.proofs.lemmas.List.{length-map}
@@ -8,7 +8,7 @@ use Rattle.ice_asc.specs.Grammar.{asc_in}
 use Rattle.ice_asc.specs.Text.{asc_text}
 use Rattle.ice_bits.specs.Configuration.{Configuration}
 use Rattle.ice_bits.specs.Grids.{IsOf}
-use Rattle.ice_blif.specs.Grammar.{netlist_of}
+use Rattle.ice_ram_read.specs.ClosedNetlists.{ClosedNetlistData, closed_netlist_of, without_rams}
 use Rattle.ice_blif.specs.declared.fault.BlifFault.{BlifFault}
 use Rattle.ice_blif.specs.declared.fault.BlifFault.TheVariants as blif_fault
 use Rattle.ice_check.specs.Refusals.{IsFaultOf}
@@ -27,14 +27,14 @@ use Rattle.ice_cells.specs.Runs.{design_of}
 use Rattle.ice_core.specs.declared.log.RoundLog.{RoundLog}
 use Rattle.ice_decode.specs.declared.fault.DecodeFault.{DecodeFault}
 use Rattle.ice_negotiate_defs.specs.Trees.{route_of}
-use Rattle.ice_pads.specs.Assign.{assign_of}
+use Rattle.ice_pads.specs.Assign.{assign_of, IsGivenAlike}
 use Rattle.ice_pads.specs.declared.fault.PinFault.{PinFault}
+use Rattle.ice_pads.specs.declared.fault.PinFault.TheVariants.{TooManyRams}
 use Rattle.ice_pcf.specs.Grammar.{pin_text_says}
 use Rattle.ice_pcf.specs.declared.constraint.Constraint.{Constraint}
 use Rattle.ice_pcf.specs.declared.fault.PcfFault.{PcfFault}
 use Rattle.ice_pcf.specs.declared.fault.PcfFault.TheVariants as pcf_fault
 use Rattle.ice_place.specs.declared.fault.PlaceFault.{PlaceFault}
-use Rattle.ice_pads.specs.Assign.{IsGivenAlike}
 use Rattle.ice_report.specs.PinReport.{pin_text}
 use Rattle.ice_report.specs.RouteReport.{route_text}
 use Rattle.ice_flow_prepare.specs.Prepared.{most_cells, prepared_on}
@@ -66,9 +66,11 @@ use Rattle.ice_flow_build_cmd.specs.BuildRows.{IsRead}
 use Rattle.ice_flow_build_cmd.specs.Ending.{IsBuildRefusal, parting_text, report_of}
 use Rattle.ice_flow_build_cmd.specs.Made.{IsMadeByBuild}
 use Rattle.ice_flow_build_cmd.specs.Parting.{TellsOf, HasReport, IsOfNoRounds, IsReadRefusal, IsRefusedWith}
+use Rattle.ice_flow_build_cmd.specs.Rams.{rams_said}
 use Rattle.ice_flow_build_cmd.specs.Reports.{pins_text, texts_of}
-use Rattle.ice_flow_build_cmd.specs.Standing.{IsEnd, PlacesStand, NetStands, BlifStands, PcfStands, StandsForBuild}
+use Rattle.ice_flow_build_cmd.specs.Standing.{IsEnd, PlacesStand, TaskStands, NetStands, BlifStands, PcfStands, StandsForBuild}
 use Rattle.ice_flow_build_cmd.proofs.Standing.{read_so, net_so, asked_so, pins_so, end_so}
+use Rattle.ice_flow_build_cmd.proofs.Unclosed.{some_rams, rams_known}
 
 -- ---- causes that are told without a report
 of_no_rounds : (cause this : Cause) → cause ≡ this → IsOfNoRounds this → IsOfNoRounds cause
@@ -147,18 +149,18 @@ pcf_unread b t parts fault cause chip said is =
     )
 
 pub blif_unread : (b : Build) (t : List (List ℕ)) (parts : Parts) (constraints : List Constraint) (fault : BlifFault) (cause : Cause) → IsRead t parts constraints
-    → (fault ≢ blif_fault.NoMemory → netlist_of (text_at t 3) ≡ Err fault) → IsBlifRefusal fault cause → IsReadRefusal b t cause
+    → (fault ≢ blif_fault.NoMemory → closed_netlist_of (text_at t 3) ≡ Err fault) → IsBlifRefusal fault cause → IsReadRefusal b t cause
 blif_unread b t parts constraints fault cause read said is =
     let name = b.package_name in
     let effort = effort_of b in (
       blif_refused (StandsForBuild name effort t) fault cause
           (λ known. read_so name effort t parts constraints (BadBlif fault) read
-          (at_fault (netlist_of (text_at t 3)) BadBlif (NetStands name effort parts constraints) fault (said known))) is,
+          (at_fault (closed_netlist_of (text_at t 3)) BadBlif (NetStands name effort parts constraints) fault (said known))) is,
       blif_alone fault cause is,
     )
 
-pub net_unread : (b : Build) (t : List (List ℕ)) (parts : Parts) (constraints : List Constraint) (circuit : NetlistData) (fault : NetFault) (cause : Cause) → IsRead t parts constraints
-    → netlist_of (text_at t 3) ≡ Ok circuit → IsFaultOf circuit fault → IsNetRefusal fault cause → IsReadRefusal b t cause
+pub net_unread : (b : Build) (t : List (List ℕ)) (parts : Parts) (constraints : List Constraint) (circuit : ClosedNetlistData) (fault : NetFault) (cause : Cause) → IsRead t parts constraints
+    → closed_netlist_of (text_at t 3) ≡ Ok circuit → IsFaultOf circuit.netlist fault → IsNetRefusal fault cause → IsReadRefusal b t cause
 net_unread b t parts constraints circuit fault cause read says bad is =
     let name = b.package_name in
     let effort = effort_of b in (
@@ -167,17 +169,33 @@ net_unread b t parts constraints circuit fault cause read says bad is =
       net_alone fault cause is,
     )
 
+-- no RAM can be built yet
+pub rams_unread : (b : Build) (t : List (List ℕ)) (parts : Parts) (constraints : List Constraint) (circuit : ClosedNetlistData) (need : ℕ) (cause : Cause) → IsRead t parts constraints
+    → closed_netlist_of (text_at t 3) ≡ Ok circuit → IsSound circuit.netlist → length circuit.rams ≡ need → 0 < need → (cause ≡ NoMemory) ⊎ (cause ≡ BadPin (TooManyRams need 0)) → IsReadRefusal b t cause
+rams_unread b t parts constraints circuit need cause read says sound long some (inl memory) =
+    (subst (IsRefusal (StandsForBuild b.package_name (effort_of b) t)) (sym memory) tt, of_no_rounds cause NoMemory memory (λ never. never))
+rams_unread b t parts constraints circuit need cause read says sound long some (inr told) =
+    let name = b.package_name in
+    let effort = effort_of b in
+    let fault = TooManyRams need 0 in
+    let is : IsPinRefusal fault cause = inr (told, rams_known need 0) in (
+      pin_refused (StandsForBuild name effort t) fault cause
+          (λ known. net_so name effort t parts constraints circuit (BadPin fault) read says
+          (inr (sound, at_fault (rams_said circuit) BadPin (λ netlist. TaskStands (task_of parts name constraints (prepared_on parts netlist)) effort) fault (some_rams circuit need long some)))) is,
+      pin_alone fault cause is,
+    )
+
 -- a netlist that was read, as it is once it is checked, and prepared
-pub task_read : (name : List ℕ) (t : List (List ℕ)) (parts : Parts) (constraints : List Constraint) (circuit sound prepared : NetlistData) → IsRead t parts constraints
-    → netlist_of (text_at t 3) ≡ Ok circuit → sound ≡ circuit → IsSound sound → IsFormed sound → length sound.cells < most_cells → prepared ≡ prepared_on parts sound
+pub task_read : (name : List ℕ) (t : List (List ℕ)) (parts : Parts) (constraints : List Constraint) (sound prepared : NetlistData) → IsRead t parts constraints
+    → closed_netlist_of (text_at t 3) ≡ Ok (without_rams sound) → IsSound sound → IsFormed sound → length sound.cells < most_cells → prepared ≡ prepared_on parts sound
     → IsTaskRead name t (task_of parts name constraints prepared)
-task_read name t parts constraints circuit sound prepared read says same is_sound formed room made = record {
+task_read name t parts constraints sound prepared read says is_sound formed room made = record {
   is_asked = record {
     circuit = sound;
     is_chip = read.is_chip;
     is_name = refl;
     are_constraints = read.are_constraints;
-    is_circuit = subst (λ (n : NetlistData). netlist_of (text_at t 3) ≡ Ok n) (sym same) says;
+    is_circuit = says;
     is_sound = is_sound;
     is_prepared = made;
   };

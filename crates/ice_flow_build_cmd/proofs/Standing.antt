@@ -2,7 +2,7 @@
 use Rattle.std.proofs.Common.{◌≡◌, ◌∙◌, ℕ, List, Ok, inl, inr, sym, ap, subst}
 use Rattle.ice_base.specs.declared.number.TileAt.{TileAt}
 use Rattle.ice_net.specs.NetlistData.{NetlistData}
-use Rattle.ice_blif.specs.Grammar.{netlist_of}
+use Rattle.ice_ram_read.specs.ClosedNetlists.{ClosedNetlistData, closed_netlist_of, without_rams}
 use Rattle.ice_check.specs.Sound.{IsSound}
 use Rattle.ice_check.proofs.Faulty.{faulty}
 use Rattle.ice_chip.specs.Database.{Parts}
@@ -32,13 +32,13 @@ pub blif_stands : (name : List ℕ) (effort : Effort) (t : List (List ℕ)) (par
 blif_stands name effort t parts constraints cause read m =
     then_stands (pin_text_says (text_at t 2)) BadPcf (BlifStands name effort (text_at t 3) parts) constraints cause read.are_constraints (pcf_stands name effort t parts cause read.is_chip m)
 
-pub net_stands : (name : List ℕ) (effort : Effort) (t : List (List ℕ)) (parts : Parts) (constraints : List Constraint) (circuit : NetlistData) (cause : Cause) → IsRead t parts constraints
-    → netlist_of (text_at t 3) ≡ Ok circuit → StandsForBuild name effort t cause → NetStands name effort parts constraints circuit cause
+pub net_stands : (name : List ℕ) (effort : Effort) (t : List (List ℕ)) (parts : Parts) (constraints : List Constraint) (circuit : ClosedNetlistData) (cause : Cause) → IsRead t parts constraints
+    → closed_netlist_of (text_at t 3) ≡ Ok circuit → StandsForBuild name effort t cause → NetStands name effort parts constraints circuit cause
 net_stands name effort t parts constraints circuit cause read e m =
-    then_stands (netlist_of (text_at t 3)) BadBlif (NetStands name effort parts constraints) circuit cause e (blif_stands name effort t parts constraints cause read m)
+    then_stands (closed_netlist_of (text_at t 3)) BadBlif (NetStands name effort parts constraints) circuit cause e (blif_stands name effort t parts constraints cause read m)
 
 sound_stands : (name : List ℕ) (effort : Effort) (parts : Parts) (constraints : List Constraint) (circuit : NetlistData) (cause : Cause) → IsSound circuit
-    → NetStands name effort parts constraints circuit cause → TaskStands (task_of parts name constraints (prepared_on parts circuit)) effort cause
+    → NetStands name effort parts constraints (without_rams circuit) cause → TaskStands (task_of parts name constraints (prepared_on parts circuit)) effort cause
 sound_stands name effort parts constraints circuit cause sound (inl bad) = absurd (faulty circuit bad.0 bad.3 bad.2 sound)
 sound_stands name effort parts constraints circuit cause sound (inr good) = good.1
 
@@ -52,7 +52,7 @@ pub task_stands : (name : List ℕ) (effort : Effort) (t : List (List ℕ)) (tas
 task_stands name effort t task cause asked m =
     subst (λ (x : Task). TaskStands x effort cause) (parts_of name t task asked)
     (sound_stands name effort task.parts task.constraints asked.circuit cause asked.is_sound
-    (net_stands name effort t task.parts task.constraints asked.circuit cause (record { is_chip = asked.is_chip; are_constraints = asked.are_constraints }) asked.is_circuit m))
+    (net_stands name effort t task.parts task.constraints (without_rams asked.circuit) cause (record { is_chip = asked.is_chip; are_constraints = asked.are_constraints }) asked.is_circuit m))
 
 pub places_stand : (name : List ℕ) (effort : Effort) (t : List (List ℕ)) (task : Task) (pads : PadsData) (cause : Cause) → IsAsked name t task → pins_said task ≡ Ok pads → StandsForBuild name effort t cause
     → PlacesStand task effort cause
@@ -70,14 +70,14 @@ read_so name effort t parts constraints cause read m =
     behind (chip_says (text_at t 1)) BadChip (PcfStands name effort (text_at t 2) (text_at t 3)) parts cause read.is_chip
     (behind (pin_text_says (text_at t 2)) BadPcf (BlifStands name effort (text_at t 3) parts) constraints cause read.are_constraints m)
 
-pub net_so : (name : List ℕ) (effort : Effort) (t : List (List ℕ)) (parts : Parts) (constraints : List Constraint) (circuit : NetlistData) (cause : Cause) → IsRead t parts constraints
-    → netlist_of (text_at t 3) ≡ Ok circuit → NetStands name effort parts constraints circuit cause → StandsForBuild name effort t cause
+pub net_so : (name : List ℕ) (effort : Effort) (t : List (List ℕ)) (parts : Parts) (constraints : List Constraint) (circuit : ClosedNetlistData) (cause : Cause) → IsRead t parts constraints
+    → closed_netlist_of (text_at t 3) ≡ Ok circuit → NetStands name effort parts constraints circuit cause → StandsForBuild name effort t cause
 net_so name effort t parts constraints circuit cause read e m =
-    read_so name effort t parts constraints cause read (behind (netlist_of (text_at t 3)) BadBlif (NetStands name effort parts constraints) circuit cause e m)
+    read_so name effort t parts constraints cause read (behind (closed_netlist_of (text_at t 3)) BadBlif (NetStands name effort parts constraints) circuit cause e m)
 
 pub asked_so : (name : List ℕ) (effort : Effort) (t : List (List ℕ)) (task : Task) (cause : Cause) → IsAsked name t task → TaskStands task effort cause → StandsForBuild name effort t cause
 asked_so name effort t task cause asked m =
-    net_so name effort t task.parts task.constraints asked.circuit cause (record { is_chip = asked.is_chip; are_constraints = asked.are_constraints }) asked.is_circuit
+    net_so name effort t task.parts task.constraints (without_rams asked.circuit) cause (record { is_chip = asked.is_chip; are_constraints = asked.are_constraints }) asked.is_circuit
     (inr (asked.is_sound, subst (λ (x : Task). TaskStands x effort cause) (sym (parts_of name t task asked)) m))
 
 pub pins_so : (name : List ℕ) (effort : Effort) (t : List (List ℕ)) (task : Task) (pads : PadsData) (cause : Cause) → IsAsked name t task → pins_said task ≡ Ok pads → PlacesStand task effort cause
@@ -94,7 +94,8 @@ pub one_task : (name : List ℕ) (t : List (List ℕ)) (a b : Task) → IsAsked 
 one_task name t a b one other =
     let parts = one_value (chip_says (text_at t 1)) a.parts b.parts one.is_chip other.is_chip in
     let constraints = one_value (pin_text_says (text_at t 2)) a.constraints b.constraints one.are_constraints other.are_constraints in
-    let read = one_value (netlist_of (text_at t 3)) one.circuit other.circuit one.is_circuit other.is_circuit in
+    let closed = one_value (closed_netlist_of (text_at t 3)) (without_rams one.circuit) (without_rams other.circuit) one.is_circuit other.is_circuit in
+    let read = ap (λ (c : ClosedNetlistData). c.netlist) closed in
     let circuit = one.is_prepared ∙ prepared_same a.parts b.parts one.circuit other.circuit parts read ∙ sym other.is_prepared in
     same a.parts b.parts a.name b.name a.constraints b.constraints a.circuit b.circuit parts (let named : name ≡ b.name = sym other.is_name in rw one.is_name named) constraints circuit
   where

@@ -2,7 +2,7 @@
 use Rattle.std.specs.Prelude.{◌≡◌, ℕ, ◌<◌, Option, None, Some, List, [], ◌∷◌, ◌++◌, length, Ok}
 use Rattle.ice_net.specs.Formed.{IsFormed}
 use Rattle.ice_net.specs.NetlistData.{NetlistData}
-use Rattle.ice_blif.specs.Grammar.{netlist_of}
+use Rattle.ice_ram_read.specs.ClosedNetlists.{closed_netlist_of, without_rams}
 use Rattle.ice_check.specs.Sound.{IsSound}
 use Rattle.ice_chip_read.specs.Whole.{chip_says}
 use Rattle.ice_pcf.specs.Grammar.{pin_text_says}
@@ -45,14 +45,14 @@ parting_of b = file_asked Report b.report
 abbrev pub outputs_of : Build → Files
 outputs_of b = record { role = Asc; name = b.asc } ∷ (listed (pins_of b) ++ listed (parting_of b))
 
--- The texts say this task: the first says the chip, the second the constraints, and the third a sound netlist. That is to be built in the
--- package of this name, with its clocks promoted and the ends of its carry chains in their runs.
+-- The texts say this task: the first says the chip, the second the constraints, and the third a sound netlist without RAMs. That is to be
+-- built in the package of this name, with its clocks promoted and the ends of its carry chains in their runs.
 pub record IsAsked (name : List ℕ) (texts : List (List ℕ)) (task : Task) : Type 0 where
   pub circuit : NetlistData
   pub is_chip : chip_says (text_at texts 1) ≡ Ok task.parts
   pub is_name : task.name ≡ name
   pub are_constraints : pin_text_says (text_at texts 2) ≡ Ok task.constraints
-  pub is_circuit : netlist_of (text_at texts 3) ≡ Ok circuit
+  pub is_circuit : closed_netlist_of (text_at texts 3) ≡ Ok (without_rams circuit)
   pub is_sound : IsSound circuit
   pub is_prepared : task.circuit ≡ prepared_on task.parts circuit
 

@@ -1,14 +1,13 @@
 -- When each answer of `build` comes: only where its cause is true, and always there, unless the desk or the memory fails. The other
 -- answers come as those of every command.
-use Rattle.std.specs.Prelude.{◌≡◌, ◌≢◌, ℕ, true, Some, List, Ok, Err}
+use Rattle.std.specs.Prelude.{◌≡◌, ◌≢◌, ◌⊎◌, ℕ, true, Some, List, Ok, Err}
 use Rattle.std.specs.Global.{Vec}
 use Rattle.ice_base.specs.declared.number.NetNo.{NetNo}
 use Rattle.ice_place.specs.declared.arrangement.Arrangement.{Arrangement}
 use Rattle.ice_base.specs.declared.number.WireNo.{WireNo}
 use Rattle.ice_asc.specs.Text.{asc_text}
 use Rattle.ice_desk.specs.Desk.{Meaning}
-use Rattle.ice_net.specs.NetlistData.{NetlistData}
-use Rattle.ice_blif.specs.Grammar.{netlist_of}
+use Rattle.ice_ram_read.specs.ClosedNetlists.{ClosedNetlistData, closed_netlist_of}
 use Rattle.ice_blif.specs.declared.fault.BlifFault.{BlifFault}
 use Rattle.ice_check.specs.Refusals.{IsFaultOf}
 use Rattle.ice_check.specs.Sound.{IsSound}
@@ -40,6 +39,7 @@ use Rattle.ice_flow_build_cmd.specs.Asked.{Build, files_of, Asks, effort_of}
 use Rattle.ice_flow_build_cmd.specs.Command.{build_files}
 use Rattle.ice_flow_build_cmd.specs.Headline.{IsApart}
 use Rattle.ice_flow_build_cmd.specs.Made.{IsMadeByBuild, IsBuiltOn, IsToldOn, IsStuckOn, IsGivenUpOn, IsGivenUpIn}
+use Rattle.ice_flow_build_cmd.specs.Rams.{rams_said}
 use Rattle.ice_flow_build_cmd.specs.Reports.{routes_text}
 
 -- ---- the texts
@@ -62,7 +62,7 @@ pub record IsRead (texts : List (List ℕ)) (parts : Parts) (constraints : List 
 
 -- they say a chip and constraints, and the netlist's text has this first fault
 abbrev pub HasBlifFault : BlifFault → List (List ℕ) → Type 0
-HasBlifFault fault texts = (parts : Parts) × (constraints : List Constraint) × IsRead texts parts constraints × (netlist_of (text_at texts 3) ≡ Err fault)
+HasBlifFault fault texts = (parts : Parts) × (constraints : List Constraint) × IsRead texts parts constraints × (closed_netlist_of (text_at texts 3) ≡ Err fault)
 
 -- status 3: exactly where there are a chip and constraints and the netlist's text has a fault, with the first one
 abbrev pub BlifRow : Build → Meaning → Cause → Type 0
@@ -70,23 +70,27 @@ BlifRow b old cause = (fault : BlifFault) → ComesExactly (build_files b) old (
 
 -- ---- the netlist
 -- the texts say a chip and constraints, and a netlist of which this is true
-pub record SaysNetlist (IsSo : NetlistData → Type 0) (texts : List (List ℕ)) : Type 0 where
+pub record SaysNetlist (IsSo : ClosedNetlistData → Type 0) (texts : List (List ℕ)) : Type 0 where
   pub parts : Parts
   pub constraints : List Constraint
-  pub circuit : NetlistData
+  pub circuit : ClosedNetlistData
   pub is_read : IsRead texts parts constraints
-  pub is_circuit : netlist_of (text_at texts 3) ≡ Ok circuit
+  pub is_circuit : closed_netlist_of (text_at texts 3) ≡ Ok circuit
   pub is_so : IsSo circuit
 
 -- status 6: exactly where the netlist isn't sound, with a fault that it has and that is looked for before the others
 pub record NetRow (b : Build) (old : Meaning) (cause : Cause) : Type 0 where
-  pub comes : ComesExactly (build_files b) old TellsNetFault (SaysNetlist (λ circuit. IsSound circuit → ⊥)) cause
-  pub fault_is : (fault : NetFault) → cause ≡ BadNet fault → OfTexts (files_of b) old (SaysNetlist (λ circuit. IsFaultOf circuit fault))
+  pub comes : ComesExactly (build_files b) old TellsNetFault (SaysNetlist (λ circuit. IsSound circuit.netlist → ⊥)) cause
+  pub fault_is : (fault : NetFault) → cause ≡ BadNet fault → OfTexts (files_of b) old (SaysNetlist (λ circuit. IsFaultOf circuit.netlist fault))
 
 -- ---- pins and places
--- status 7: exactly where the pins have a fault, with this one
+-- the netlist is sound and this fault is that it has RAMs; or it has none, and the pins have this fault
+abbrev pub HasPinFault : List ℕ → PinFault → List (List ℕ) → Type 0
+HasPinFault name fault texts = SaysNetlist (λ circuit. IsSound circuit.netlist × (rams_said circuit ≡ Err fault)) texts ⊎ Asks name (λ task. pins_said task ≡ Err fault) texts
+
+-- status 7: exactly where there are RAMs or the pins have a fault, with this one
 abbrev pub PinRow : Build → Meaning → Cause → Type 0
-PinRow b old cause = (fault : PinFault) → ComesExactly (build_files b) old (λ c. c ≡ BadPin fault) (Asks b.package_name (λ task. pins_said task ≡ Err fault)) cause
+PinRow b old cause = (fault : PinFault) → ComesExactly (build_files b) old (λ c. c ≡ BadPin fault) (HasPinFault b.package_name fault) cause
 
 -- status 8: exactly where the pins have no fault and the places have one, with this one
 abbrev pub PlaceRow : Build → Meaning → Cause → Type 0

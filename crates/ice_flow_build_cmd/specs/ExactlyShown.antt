@@ -1,7 +1,7 @@
 -- What is shown, with the pads that are chosen, and by the readers of the texts: more than the headline says.
 use Rattle.std.specs.Prelude.{◌≡◌, ℕ, List, Ok}
 use Rattle.ice_net.specs.NetlistData.{NetlistData}
-use Rattle.ice_blif.specs.Grammar.{netlist_of}
+use Rattle.ice_ram_read.specs.ClosedNetlists.{closed_netlist_of, without_rams}
 use Rattle.ice_check.specs.Sound.{IsSound}
 use Rattle.ice_chip.specs.Database.{Parts}
 use Rattle.ice_chip_read.specs.Whole.{chip_says}
@@ -20,7 +20,7 @@ use Rattle.ice_flow_build_cmd.specs.Asked.{Build}
 use Rattle.ice_flow_build_cmd.specs.Made.{IsMadeByBuild}
 
 -- The text of bits, read by the database that the first text says, is a circuit without a fault. For every list of levels it shows,
--- step by step, exactly what the sound netlist of the third text shows, at the pads that the constraints of the second give its ports in
+-- step by step, exactly what the sound netlist without RAMs of the third text shows, at the pads that the constraints of the second give its ports in
 -- the package of this name, and it drives no other pad.
 pub record IsShownExactly (name : List ℕ) (texts : List (List ℕ)) (text : List ℕ) : Type 0 where
   pub parts : Parts
@@ -30,7 +30,7 @@ pub record IsShownExactly (name : List ℕ) (texts : List (List ℕ)) (text : Li
   pub configuration : Configuration
   pub is_chip : chip_says (text_at texts 1) ≡ Ok parts
   pub are_constraints : pin_text_says (text_at texts 2) ≡ Ok constraints
-  pub is_circuit : netlist_of (text_at texts 3) ≡ Ok circuit
+  pub is_circuit : closed_netlist_of (text_at texts 3) ≡ Ok (without_rams circuit)
   pub is_sound : IsSound circuit
   pub are_pads : assign_of parts name constraints circuit (design_of circuit) ≡ Ok pads
   pub decodes : asc_in parts text ≡ Ok configuration

@@ -6,6 +6,7 @@ pub mod PinTexts
 pub mod Headline
 pub mod ExactlyShown
 pub mod Ending
+pub mod Rams
 pub mod Standing
 pub mod Parting
 pub mod Command

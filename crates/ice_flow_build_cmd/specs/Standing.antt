@@ -1,7 +1,6 @@
 -- How the three texts of `build` stand, one look at them after another.
 use Rattle.std.specs.Prelude.{ℕ, List}
-use Rattle.ice_net.specs.NetlistData.{NetlistData}
-use Rattle.ice_blif.specs.Grammar.{netlist_of}
+use Rattle.ice_ram_read.specs.ClosedNetlists.{ClosedNetlistData, closed_netlist_of}
 use Rattle.ice_check.specs.Sound.{IsSound}
 use Rattle.ice_chip.specs.Database.{Parts}
 use Rattle.ice_chip_read.specs.Whole.{chip_says}
@@ -17,6 +16,7 @@ use Rattle.ice_flow_frame.specs.Commands.{stands_by, stands_if}
 use Rattle.ice_flow_frame.specs.Refusals.{IsNetCause}
 use Rattle.ice_flow_frame.specs.Texts.{text_at}
 use Rattle.ice_flow_build_cmd.specs.Made.{IsStuckOn, IsGivenUpOn}
+use Rattle.ice_flow_build_cmd.specs.Rams.{rams_said}
 
 -- The pins and the places of the task have no fault: the work is done, or with the arrangement that is told a sink can't be reached, or each
 -- permitted round ends with an overused wire, or the bits have no circuit.
@@ -36,19 +36,23 @@ PlacesStand task effort = stands_by (places_said task) Overfull (λ first. IsEnd
 abbrev pub TaskStands : Task → Effort → Cause → Type 0
 TaskStands task effort = stands_by (pins_said task) BadPin (λ pads. PlacesStand task effort)
 
--- a netlist that was read: it is sound, and is prepared; or it has a fault
-abbrev pub NetStands : List ℕ → Effort → Parts → List Constraint → NetlistData → Cause → Type 0
-NetStands name effort parts constraints circuit = stands_if (IsSound circuit) (IsNetCause circuit) (TaskStands (task_of parts name constraints (prepared_on parts circuit)) effort)
+-- a sound netlist: it is prepared, or has RAMs, which can't be built yet
+abbrev pub RamsStand : List ℕ → Effort → Parts → List Constraint → ClosedNetlistData → Cause → Type 0
+RamsStand name effort parts constraints circuit = stands_by (rams_said circuit) BadPin (λ netlist. TaskStands (task_of parts name constraints (prepared_on parts netlist)) effort)
+
+-- a netlist that was read: it is sound, or has a fault
+abbrev pub NetStands : List ℕ → Effort → Parts → List Constraint → ClosedNetlistData → Cause → Type 0
+NetStands name effort parts constraints circuit = stands_if (IsSound circuit.netlist) (IsNetCause circuit.netlist) (RamsStand name effort parts constraints circuit)
 
 -- the netlist's text, for a chip and constraints that were read
 abbrev pub BlifStands : List ℕ → Effort → List ℕ → Parts → List Constraint → Cause → Type 0
-BlifStands name effort blif_text parts constraints = stands_by (netlist_of blif_text) BadBlif (NetStands name effort parts constraints)
+BlifStands name effort blif_text parts constraints = stands_by (closed_netlist_of blif_text) BadBlif (NetStands name effort parts constraints)
 
 -- the text of the pins, for a chip that was read
 abbrev pub PcfStands : List ℕ → Effort → List ℕ → List ℕ → Parts → Cause → Type 0
 PcfStands name effort pcf_text blif_text parts = stands_by (pin_text_says pcf_text) BadPcf (BlifStands name effort blif_text parts)
 
--- First the chip text is looked at, then the text of the pins, the netlist's text, the netlist, the pins, the places, and then what is
--- built.
+-- First the chip text is looked at, then the text of the pins, the netlist's text, the netlist, its RAMs, the pins, the places, and then
+-- what is built.
 abbrev pub StandsForBuild : List ℕ → Effort → List (List ℕ) → Cause → Type 0
 StandsForBuild name effort texts = stands_by (chip_says (text_at texts 1)) BadChip (PcfStands name effort (text_at texts 2) (text_at texts 3))

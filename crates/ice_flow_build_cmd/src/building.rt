@@ -1,5 +1,7 @@
 //! Building: three texts are read, the netlist is built, and the text of its bits is written, with the reports that are asked for.
-ghost use Rattle.std.specs.Prelude.{◌≡◌, ◌<◌, ◌∷◌, ℕ, List, length, true, Ok, IfOk, IfErr};
+ghost use Rattle.std.specs.Prelude.{◌≡◌, ◌<◌, ◌⊎◌, ◌∷◌, ℕ, List, length, true, Ok, IfOk, IfErr};
+ghost use Rattle.ice_pads.specs.declared.fault.PinFault.TheVariants.{TooManyRams};
+ghost use Rattle.ice_flow_frame.specs.declared.cause.Cause.TheVariants.{BadPin, NoMemory as out_of_memory};
 ghost use Rattle.ice_flow_frame.specs.Causes.{status_of};
 ghost use Rattle.ice_flow_frame.specs.Commands.{InFiles, IsTrueOf};
 ghost use Rattle.ice_flow_frame.specs.Ends.{IsEndInFiles, IsMadeOf, IsReported, IsToldLong, unreported};
@@ -7,7 +9,9 @@ ghost use Rattle.ice_flow_frame.specs.Reading.{TellsLong};
 ghost use Rattle.ice_flow_frame.specs.Rows.{SaidBy, KeptRow, MadeRow, SilentRow, PartingRow};
 ghost use Rattle.ice_flow_frame.specs.Told.{told_in};
 ghost use Rattle.ice_flow_frame.specs.Texts.{text_at, ArePermitted};
-ghost use Rattle.ice_blif.specs.Grammar.{netlist_of, IsWithinLimits};
+ghost use Rattle.ice_blif.specs.Grammar.{IsWithinLimits};
+ghost use Rattle.ice_chip.specs.Database.{Parts};
+ghost use Rattle.ice_ram_read.specs.ClosedNetlists.{closed_netlist_of, without_rams};
 ghost use Rattle.ice_flow_build.specs.Laid.{task_of};
 ghost use Rattle.ice_flow_build.specs.Stages.{IsPermitted};
 ghost use Rattle.ice_check.specs.Sound.{IsSound};
@@ -26,8 +30,7 @@ ghost use Rattle.ice_flow_words.specs.Views.{build_view};
 
 use crate::ending::{build_refusal, made_of, without_report};
 use crate::files::{outputs, parting};
-use ice_base::NoMemory;
-use ice_blif::read_blif;
+use ice_base::{NoMemory, to_u32};
 use ice_blif_laws::read_names_are_known;
 use ice_check::{Sound, check};
 use ice_chip::Chip;
@@ -44,13 +47,15 @@ use ice_flow_prepare::laws::{
 };
 use ice_flow_prepare::prepare;
 use ice_flow_words::BuildRequest;
+use ice_pads::PinFault;
 use ice_pcf::{Pcf, read_pcf};
+use ice_ram_read::read_closed_netlist;
 use std::alloc::Global;
 use std::thread::Threads;
 
-// A sound netlist that the second text behind the chip's says can be prepared.
+// A sound netlist that the second text behind the chip's says, and that no RAM closes, can be prepared.
 fn can_be_prepared(texts: &Texts, sound: &Sound)
-    requires netlist { netlist_of (text_at texts.now 2) ≡ Ok sound.now }
+    requires circuit { closed_netlist_of (text_at texts.now 2) ≡ Ok (without_rams sound.now) }
     requires limits { IsWithinLimits (text_at texts.now 2) sound.now }
     ensures formed { IsFormed sound.now }
     ensures room { length sound.now.cells < most_cells }
@@ -69,6 +74,42 @@ struct ReadTask {
     sound: Sound,
 }
 
+// Why RAMs are not built: none can be as yet.
+fn rams_refusal(need: usize) -> Cause
+    ensures { (result ≡ out_of_memory) ⊎ (result ≡ BadPin (TooManyRams need 0)) }
+{
+    match to_u32(need) {
+        Ok(need) => Cause::BadPin(PinFault::TooManyRams { need, have: 0 }),
+        Err(NoMemory) => Cause::NoMemory,
+    }
+}
+
+// The sound netlist that the second text behind the chip's says, where no RAM closes it.
+fn read_sound(alloc: Global, texts: &Texts) -> Result<Sound, Cause>
+    ensures circuit { IfOk result (λ sound.
+        closed_netlist_of (text_at texts.now 2) ≡ Ok (without_rams sound)) }
+    ensures limits { IfOk result (λ sound. IsWithinLimits (text_at texts.now 2) sound) }
+    ensures refused { (b : Build) (chip_text : List ℕ) (parts : Parts)
+        (constraints : List Constraint)
+        → IsRead (chip_text ∷ texts.now) parts constraints
+        → IfErr result (IsReadRefusal b (chip_text ∷ texts.now)) }
+{
+    let circuit = match read_closed_netlist(alloc, texts.at(2)) {
+        Ok(circuit) => circuit,
+        Err(fault) => return Err(blif_refusal(fault)),
+    };
+    let rams = circuit.rams_count();
+    let sound = match check(alloc, circuit.into_netlist()) {
+        Ok(sound) => sound,
+        Err(fault) => return Err(net_refusal(fault)),
+    };
+    if rams > 0 {
+        drop(sound);
+        return Err(rams_refusal(rams));
+    }
+    Ok(sound)
+}
+
 // The netlist that the second text behind the chip's says, prepared for the chip.
 fn read_net(alloc: Global, chip: &Chip, texts: &Texts) -> Result<Sound, Cause>
     ensures task { (name chip_text : List ℕ) (constraints : List Constraint)
@@ -79,13 +120,9 @@ fn read_net(alloc: Global, chip: &Chip, texts: &Texts) -> Result<Sound, Cause>
         → IsRead (chip_text ∷ texts.now) chip.now constraints
         → IfErr result (IsReadRefusal b (chip_text ∷ texts.now)) }
 {
-    let netlist = match read_blif(alloc, texts.at(2)) {
-        Ok(netlist) => netlist,
-        Err(fault) => return Err(blif_refusal(fault)),
-    };
-    let sound = match check(alloc, netlist) {
+    let sound = match read_sound(alloc, texts) {
         Ok(sound) => sound,
-        Err(fault) => return Err(net_refusal(fault)),
+        Err(cause) => return Err(cause),
     };
     can_be_prepared(texts, &sound);
     match prepare(alloc, chip, sound) {

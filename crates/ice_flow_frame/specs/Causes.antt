@@ -142,6 +142,7 @@ pin_line (pin_fault.PinTwice first second) = two_line (codes "error 7 pin pintwi
 pin_line (pin_fault.PortTwice first second) = two_line (codes "error 7 pin porttwice lines ") first (codes " ") second
 pin_line (pin_fault.NoPadLeft port) = named_line (codes "error 7 pin nopad ") port
 pin_line (pin_fault.TooManyGlobals need have) = two_line (codes "error 7 pin globals need ") need (codes " have ") have
+pin_line (pin_fault.TooManyRams need have) = two_line (codes "error 7 pin rams need ") need (codes " have ") have
 pin_line (pin_fault.PadLacks port) = named_line (codes "error 7 pin padlacks ") port
 pin_line pin_fault.NoMemory = joined (codes "error 7 pin nomemory\n" ∷ [])
 

@@ -5,7 +5,7 @@ ghost use Rattle.ice_flow_frame.specs.Causes.{joined, spaced, names_line, number
 ghost use Rattle.ice_desk.specs.Said.{IsSaid};
 ghost use Rattle.ice_flow_frame.specs.Pieces.{piece_text, IsLoopless};
 
-use crate::say::{Piece, say_all, say_pieces};
+use crate::say::{NOTHING, Piece, say_all, say_pieces};
 use ice_base::WireNo;
 use ice_chip::Pad;
 use ice_decode::{DecodeFault, Wires};
@@ -16,16 +16,9 @@ fn short(head: &'static [u8], piece: Piece, tail: &'static [u8]) -> [Piece; 9]
     ensures { joined (map piece_text result)
         ≡ joined (head.now ∷ piece_text piece ∷ tail.now ∷ []) }
 {
+    let (head, tail) = (Piece::Text(head), Piece::Text(tail));
     [
-        Piece::Text(head),
-        piece,
-        Piece::Text(tail),
-        Piece::Text(b""),
-        Piece::Text(b""),
-        Piece::Text(b""),
-        Piece::Text(b""),
-        Piece::Text(b""),
-        Piece::Text(b""),
+        head, piece, tail, NOTHING, NOTHING, NOTHING, NOTHING, NOTHING, NOTHING,
     ]
 }
 
@@ -49,8 +42,8 @@ fn numbered(
         Piece::Text(tail),
         Piece::Number(third as u64),
         Piece::Text(b"\n"),
-        Piece::Text(b""),
-        Piece::Text(b""),
+        NOTHING,
+        NOTHING,
     ]
 }
 
@@ -95,7 +88,7 @@ fn bits_pieces(fault: &DecodeFault) -> [Piece; 9]
             numbered(b"error 15 bits extra ", bank, b" ", x, b" ", y)
         }
         DecodeFault::PinType { pad, value } => pin_type_pieces(*pad, *value),
-        _ => short(b"error 15 bits nomemory\n", Piece::Text(b""), b""),
+        _ => short(b"error 15 bits nomemory\n", NOTHING, b""),
     }
 }
 

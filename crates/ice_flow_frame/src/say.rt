@@ -38,6 +38,9 @@ pub(crate) enum Piece {
     Number(u64),
 }
 
+// What fills a line of fewer pieces.
+pub(crate) const NOTHING: Piece = Piece::Text(b"");
+
 // Says a piece.
 fn say_piece<D: Desk>(desk: &mut D, piece: Piece) -> bool
     ensures same { SameButSaying (D.seen desk.old) (D.seen desk.new) }
@@ -92,13 +95,7 @@ fn role_name(role: FileRole) -> Piece
 fn one(text: &'static [u8]) -> [Piece; 5]
     ensures { joined (map piece_text result) ≡ joined (text.now ∷ []) }
 {
-    [
-        Piece::Text(text),
-        Piece::Text(b""),
-        Piece::Text(b""),
-        Piece::Text(b""),
-        Piece::Text(b""),
-    ]
+    [Piece::Text(text), NOTHING, NOTHING, NOTHING, NOTHING]
 }
 
 // A line of three pieces.
@@ -110,8 +107,8 @@ fn three(head: &'static [u8], piece: Piece, tail: &'static [u8]) -> [Piece; 5]
         Piece::Text(head),
         piece,
         Piece::Text(tail),
-        Piece::Text(b""),
-        Piece::Text(b""),
+        NOTHING,
+        NOTHING,
     ]
 }
 
@@ -263,6 +260,9 @@ fn pin_pieces(fault: &PinFault) -> [Piece; 5]
         }
         PinFault::TooManyGlobals { need, have } => {
             two(b"error 7 pin globals need ", *need, b" have ", *have)
+        }
+        PinFault::TooManyRams { need, have } => {
+            two(b"error 7 pin rams need ", *need, b" have ", *have)
         }
         _ => one(b"error 7 pin nomemory\n"),
     }

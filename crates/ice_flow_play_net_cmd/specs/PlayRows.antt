@@ -2,8 +2,7 @@
 -- answers come as those of every command.
 use Rattle.std.specs.Prelude.{◌≡◌, ℕ, List, Ok, Err}
 use Rattle.ice_desk.specs.Desk.{Meaning}
-use Rattle.ice_net.specs.NetlistData.{NetlistData}
-use Rattle.ice_blif.specs.Grammar.{netlist_of}
+use Rattle.ice_ram_read.specs.ClosedNetlists.{ClosedNetlistData, closed_netlist_of}
 use Rattle.ice_blif.specs.declared.fault.BlifFault.{BlifFault}
 use Rattle.ice_check.specs.Sound.{IsSound}
 use Rattle.ice_check.specs.declared.fault.NetFault.{NetFault}
@@ -16,7 +15,7 @@ use Rattle.ice_flow_play_net_cmd.specs.Played.{PlayNet, files_of, IsFaulty, HasB
 
 -- the netlist's text has this first fault
 abbrev pub IsMalformed : BlifFault → List (List ℕ) → Type 0
-IsMalformed fault texts = netlist_of (text_at texts 1) ≡ Err fault
+IsMalformed fault texts = closed_netlist_of (text_at texts 1) ≡ Err fault
 
 -- status 3: exactly where the netlist's text has a fault, with the first one
 abbrev pub BlifRow : PlayNet → Meaning → Cause → Type 0
@@ -24,7 +23,7 @@ BlifRow p old cause = (fault : BlifFault) → ComesExactly (play_net p) old (λ 
 
 -- the text has a netlist, which isn't sound
 abbrev pub IsUnsound : List (List ℕ) → Type 0
-IsUnsound texts = (circuit : NetlistData) × (netlist_of (text_at texts 1) ≡ Ok circuit) × (IsSound circuit → ⊥)
+IsUnsound texts = (circuit : ClosedNetlistData) × (closed_netlist_of (text_at texts 1) ≡ Ok circuit) × (IsSound circuit.netlist → ⊥)
 
 -- status 6: exactly where the netlist isn't sound, with a fault that it has and that is looked for before the others
 pub record NetRow (p : PlayNet) (old : Meaning) (cause : Cause) : Type 0 where

@@ -1,16 +1,15 @@
 -- How the two texts of `play-net` stand, and what it makes of them: of the netlist's text, which is the first, and of the text of
 -- levels, which is the second.
-use Rattle.std.specs.Prelude.{◌≡◌, ◌≢◌, Bool, ℕ, List, [], ◌∷◌, length, Ok, Err}
+use Rattle.std.specs.Prelude.{◌≡◌, ◌≢◌, Bool, ℕ, List, [], ◌∷◌, Ok, Err}
 use Rattle.ice_place.specs.declared.arrangement.Arrangement.{Arrangement}
-use Rattle.ice_net.specs.NetlistData.{NetlistData}
-use Rattle.ice_net.specs.Meaning.{shows}
-use Rattle.ice_blif.specs.Grammar.{netlist_of}
+use Rattle.ice_ram_read.specs.ClosedNetlists.{ClosedNetlistData, closed_netlist_of}
 use Rattle.ice_check.specs.Sound.{IsSound}
 use Rattle.ice_check.specs.Refusals.{IsFaultOf}
 use Rattle.ice_check.specs.declared.fault.NetFault.TheVariants as net_fault
 use Rattle.ice_check.specs.declared.fault.NetFault.{NetFault}
 use Rattle.ice_sim_levels.specs.LevelTexts.{levels_of}
 use Rattle.ice_sim_levels.specs.DriveTexts.{drives_text}
+use Rattle.ice_sim_rams.specs.Closed.{closed_shows}
 use Rattle.ice_flow_frame.specs.declared.cause.Cause.{Cause}
 use Rattle.ice_flow_frame.specs.declared.cause.Cause.TheVariants.{BadBlif, BadLevels}
 use Rattle.ice_flow_frame.specs.declared.cause.FileRole.TheVariants.{Blif, Levels}
@@ -28,40 +27,40 @@ files_of p = record { role = Blif; name = p.blif } ∷ record { role = Levels; n
 
 -- ---- how the texts stand
 
--- the levels of a sound netlist: the work is done where they are one for each port in each line
-abbrev pub LevelsStand : NetlistData → List ℕ → Cause → Type 0
-LevelsStand circuit levels_text = stands_by (levels_of (length circuit.ports) levels_text) BadLevels (λ levels. IsDone)
+-- the levels of a sound netlist: the work is done where they are one for each of its first ports in each line
+abbrev pub LevelsStand : ClosedNetlistData → List ℕ → Cause → Type 0
+LevelsStand circuit levels_text = stands_by (levels_of circuit.first levels_text) BadLevels (λ levels. IsDone)
 
 -- a netlist that was read: it is sound, or has a fault
-abbrev pub NetStands : List ℕ → NetlistData → Cause → Type 0
-NetStands levels_text circuit = stands_if (IsSound circuit) (IsNetCause circuit) (LevelsStand circuit levels_text)
+abbrev pub NetStands : List ℕ → ClosedNetlistData → Cause → Type 0
+NetStands levels_text circuit = stands_if (IsSound circuit.netlist) (IsNetCause circuit.netlist) (LevelsStand circuit levels_text)
 
 -- first the netlist's text is looked at, then the netlist, and then the levels
 abbrev pub StandsForPlayNet : List (List ℕ) → Cause → Type 0
-StandsForPlayNet texts = stands_by (netlist_of (text_at texts 1)) BadBlif (NetStands (text_at texts 2))
+StandsForPlayNet texts = stands_by (closed_netlist_of (text_at texts 1)) BadBlif (NetStands (text_at texts 2))
 
 -- the netlist has no meaning, by this fault
 pub record IsFaulty (fault : NetFault) (texts : List (List ℕ)) : Type 0 where
-  pub circuit : NetlistData
-  pub is_circuit : netlist_of (text_at texts 1) ≡ Ok circuit
-  pub is_fault : IsFaultOf circuit fault
+  pub circuit : ClosedNetlistData
+  pub is_circuit : closed_netlist_of (text_at texts 1) ≡ Ok circuit
+  pub is_fault : IsFaultOf circuit.netlist fault
   pub is_known : fault ≢ net_fault.NoMemory
 
--- the netlist is sound, and this line of the level text is the first that isn't one level for each port
+-- the netlist is sound, and this line of the level text is the first that isn't one level for each of its first ports
 pub record HasBadLine (line : ℕ) (texts : List (List ℕ)) : Type 0 where
-  pub circuit : NetlistData
-  pub is_circuit : netlist_of (text_at texts 1) ≡ Ok circuit
-  pub is_sound : IsSound circuit
-  pub is_line : levels_of (length circuit.ports) (text_at texts 2) ≡ Err line
+  pub circuit : ClosedNetlistData
+  pub is_circuit : closed_netlist_of (text_at texts 1) ≡ Ok circuit
+  pub is_sound : IsSound circuit.netlist
+  pub is_line : levels_of circuit.first (text_at texts 2) ≡ Err line
 
 -- the netlist is sound, and this is the text of what it shows for the levels
 pub record IsPlayed (texts : List (List ℕ)) (text : List ℕ) : Type 0 where
-  pub circuit : NetlistData
+  pub circuit : ClosedNetlistData
   pub levels : List (List Bool)
-  pub is_circuit : netlist_of (text_at texts 1) ≡ Ok circuit
-  pub is_sound : IsSound circuit
-  pub are_levels : levels_of (length circuit.ports) (text_at texts 2) ≡ Ok levels
-  pub is_text : text ≡ drives_text (shows circuit levels)
+  pub is_circuit : closed_netlist_of (text_at texts 1) ≡ Ok circuit
+  pub is_sound : IsSound circuit.netlist
+  pub are_levels : levels_of circuit.first (text_at texts 2) ≡ Ok levels
+  pub is_text : text ≡ drives_text (closed_shows circuit.netlist circuit.first circuit.rams levels)
 
 -- what is made of the texts; nothing is placed or routed
 abbrev pub IsMadeByPlayNet : List (List ℕ) → List (List ℕ) → Arrangement → Told → Type 0

@@ -9,7 +9,6 @@ ghost use Rattle.ice_flow_play_net_cmd.specs.Played.{StandsForPlayNet, IsMadeByP
 ghost use Rattle.ice_flow_words.specs.Views.{net_view};
 
 use ice_base::NoMemory;
-use ice_blif::read_blif;
 use ice_check::check;
 use ice_desk::Desk;
 use ice_flow_frame::{
@@ -17,8 +16,9 @@ use ice_flow_frame::{
     say_made,
 };
 use ice_flow_words::PlayNetRequest;
-use ice_sim::play;
+use ice_ram_read::read_closed_netlist;
 use ice_sim_levels::{LevelFault, read_levels};
+use ice_sim_rams::play_closed;
 use std::alloc::Global;
 
 // What is played of a netlist: what its ports drive.
@@ -32,20 +32,22 @@ impl Making for Playing {
         IsMadeByPlayNet texts made arrangement told };
 
     fn make(&self, alloc: Global, texts: &Texts) -> Result<Made, Cause> {
-        let netlist = match read_blif(alloc, texts.at(1)) {
-            Ok(netlist) => netlist,
+        let circuit = match read_closed_netlist(alloc, texts.at(1)) {
+            Ok(circuit) => circuit,
             Err(fault) => return Err(blif_refusal(fault)),
         };
+        let first = circuit.first();
+        let (netlist, mut rams) = circuit.into_parts();
         let sound = match check(alloc, netlist) {
             Ok(sound) => sound,
             Err(fault) => return Err(net_refusal(fault)),
         };
-        let levels = match read_levels(alloc, texts.at(2), sound.netlist().ports().len()) {
+        let levels = match read_levels(alloc, texts.at(2), first) {
             Ok(levels) => levels,
             Err(LevelFault::BadLine { line }) => return Err(Cause::BadLevels { line }),
             Err(LevelFault::NoMemory) => return Err(Cause::NoMemory),
         };
-        match play(alloc, &sound, &levels) {
+        match play_closed(alloc, &sound, first, &mut rams, &levels) {
             Ok(text) => made_text(alloc, text),
             Err(NoMemory) => Err(Cause::NoMemory),
         }

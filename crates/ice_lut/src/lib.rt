@@ -4,4 +4,6 @@
 
 mod table;
 
-pub use table::{bits_of, passing, permuted, rewired, value, with_constant};
+pub use table::{
+    bits_of, complement, entry_place, passing, permuted, rewired, value, with_constant,
+};

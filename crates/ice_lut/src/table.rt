@@ -1,5 +1,5 @@
 //! Tables of four inputs.
-ghost use Rattle.std.specs.Prelude.{◌≡◌, ℕ, ◌<◌, Bool, false, List, [], ◌∷◌, length, map, replicate, slice_set, slice_index_or};
+ghost use Rattle.std.specs.Prelude.{◌≡◌, ℕ, ◌-◌, ◌<◌, Bool, false, List, [], ◌∷◌, length, map, replicate, slice_set, slice_index_or};
 ghost use Rattle.std.specs.List.{range_with_len};
 ghost use Rattle.ice_net.specs.Meaning.{number_of, table_bit};
 ghost use Rattle.ice_lut.specs.Tables.{levels_of, level_at, levels_from, with_constant, inputs_of, passing, permuted, rewired, table_places, other_places};
@@ -124,6 +124,13 @@ pub fn permuted(table: u16, order: [u8; 4]) -> u16
     rewired(table, inputs_of(order))
 }
 
+/// The table that gives the other level for every input.
+pub fn complement(table: u16) -> u16
+    ensures { result ≡ 65535 - table }
+{
+    u16::MAX - table
+}
+
 /// The table that gives the level of that input.
 pub fn passing(input: u8) -> u16
     requires { input < 4 }
@@ -137,6 +144,17 @@ pub fn passing(input: u8) -> u16
         2 => 0xf0f0,
         _ => 0xff00,
     }
+}
+
+// Where each entry of a table stands among the bits of a logic cell.
+const ENTRY_PLACES: [u8; 16] = [4, 14, 15, 5, 6, 16, 17, 7, 3, 13, 12, 2, 1, 11, 10, 0];
+
+/// Where an entry of a table stands among the bits of a logic cell.
+pub fn entry_place(entry: u8) -> u8
+    requires { entry < 16 }
+    ensures { result ≡ slice_index_or table_places entry 0 }
+{
+    ENTRY_PLACES[usize::from(entry)]
 }
 
 /// The bits of a logic cell that write a table, and that enable neither a carry nor a flip-flop.

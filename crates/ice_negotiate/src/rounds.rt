@@ -1,5 +1,5 @@
 //! Rounds until no wire is overused, or until no more are permitted.
-ghost use Rattle.std.specs.Prelude.{◌≡◌, ◌+◌, ◌<◌, ◌≤◌, ◌++◌, [], ◌∷◌, ℕ, true, false, None, Some, length, replicate, slice_index, All, IfOk, IfErr, OnOk, vec_len};
+ghost use Rattle.std.specs.Prelude.{◌≡◌, ◌+◌, ◌<◌, ◌≤◌, ◌++◌, [], ◌∷◌, ℕ, None, Some, length, replicate, slice_index, All, IfOk, IfErr, OnOk, vec_len};
 ghost use Rattle.ice_core.specs.Moves.{AreWithin, IsOccupancy};
 ghost use Rattle.ice_core.specs.declared.log.RoundLog.{RoundLog as Log};
 ghost use Rattle.ice_negotiate_defs.specs.Rounds.{AreNets, BeginsWith};
@@ -34,14 +34,6 @@ pub struct State {
     pub logs: Vec<RoundLog>,
     // The tallies of the rounds.
     pub tallies: Vec<Tally>,
-}
-
-// No wire is held by two nets.
-fn is_free(counts: &Counts) -> bool
-    ensures free { result ≡ true → (w : ℕ) → slice_index counts.now.closed w ≤ 1 }
-    ensures overused { result ≡ false → (w : ℕ) × (1 < slice_index counts.now.closed w) }
-{
-    counts.over() == 0
 }
 
 // The state before the first round, in which all nets move.
@@ -269,7 +261,7 @@ fn play_all<G: Gate + Sync, R: Threads + Sync>(
             kits: again,
         } = played;
         kits = again;
-        if is_free(&counts) {
+        if counts.is_free() {
             return Ok(routed(state, counts)?);
         }
         prepare(rt, alloc, graph, nets, round, &mut state, counts, workers)?;

@@ -1,4 +1,4 @@
-//! Why no pads or globals are assigned.
+//! Why no pads, globals or places of RAMs are assigned.
 ghost use Rattle.std.specs.Prelude.{◌≡◌};
 ghost use Rattle.ice_pads.specs.declared.fault.PinFault.TheVariants.{NoMemory as out_of_memory};
 
@@ -6,7 +6,7 @@ use ice_base::{Name, NoMemory};
 use std::alloc::AllocFailed;
 use thiserror::Error;
 
-/// Why the ports of a netlist get no pads, or its global buffers no globals.
+/// Why the ports of a netlist get no pads, its global buffers no globals, or its RAMs no places.
 #[derive(Debug, Drop, Error)]
 pub enum PinFault {
     /// The database has no package of the name.
@@ -30,6 +30,9 @@ pub enum PinFault {
     /// More global buffers than globals that can be taken.
     #[error("{need} global buffers, {have} globals")]
     TooManyGlobals { need: u32, have: u32 },
+    /// More RAMs than can be taken. None can be built yet, so that there are 0.
+    #[error("{need} RAMs, {have} that can be taken")]
+    TooManyRams { need: u32, have: u32 },
     /// The pad that a constraint gives to this port lacks a wire that it needs.
     #[error("a pad without the wires")]
     PadLacks { port: Name },

@@ -1,4 +1,5 @@
-//! Tests above the libraries of graphs and routes: small graphs, paths in generated ones, and the usable rows of small chips.
+//! Tests above the libraries of graphs and routes: small graphs, paths in generated ones, the usable rows of small chips, and rounds from an
+//! opening, by hand and beside those without.
 #![tactic(auto)]
 
 #[cfg(test)]
@@ -6,11 +7,17 @@ mod asked;
 #[cfg(test)]
 mod claims;
 #[cfg(test)]
+mod drawn_openings;
+#[cfg(test)]
 mod drawn_paths;
 #[cfg(test)]
 mod fabrics;
 #[cfg(test)]
 mod graphs;
+#[cfg(test)]
+mod opened;
+#[cfg(test)]
+mod openings;
 #[cfg(test)]
 mod paths;
 #[cfg(test)]

@@ -3,3 +3,4 @@ pub mod Closing
 pub mod Fronts
 pub mod Undoing
 pub mod Showing
+mod Verdict

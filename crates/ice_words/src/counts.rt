@@ -1,5 +1,5 @@
 //! The counts at the end of a round, and its tally.
-ghost use Rattle.std.specs.Prelude.{◌≡◌, ◌+◌, ◌<◌, ◌≤◌, ◌^◌, [], ℕ, length, drop, slice_index, vec_capacity};
+ghost use Rattle.std.specs.Prelude.{◌≡◌, ◌+◌, ◌<◌, ◌≤◌, ◌^◌, [], ℕ, true, false, length, drop, slice_index, vec_capacity};
 ghost use Rattle.ice_core.specs.Routes.{overuse};
 ghost use Rattle.std.specs.Mem.Slots.{slots_items, slots_len, IsFull};
 ghost use Rattle.ice_words.specs.Grips.{Shut, shut_of};
@@ -75,12 +75,20 @@ impl Counts {
         (self.up, self.down)
     }
 
-    /// How much the counts are above 1, over all wires: 0 exactly where no wire is held twice. Takes no memory.
+    /// How much the counts are above 1, over all wires. Takes no memory.
     pub fn over(&self) -> u64
         ensures { result ≡ overuse self.now.closed }
     {
         let (up, down) = self.posted();
         self.over_opened + up - down
+    }
+
+    /// Whether no wire is held twice. Takes no memory.
+    pub fn is_free(&self) -> bool
+        ensures free { result ≡ true → (w : ℕ) → slice_index self.now.closed w ≤ 1 }
+        ensures overused { result ≡ false → (w : ℕ) × (1 < slice_index self.now.closed w) }
+    {
+        self.over() == 0
     }
 
     /// What is kept of the round. No other call makes a tally.

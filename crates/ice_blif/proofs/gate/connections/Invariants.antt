@@ -6,7 +6,7 @@ use Rattle.ice_blif.proofs.gate.connections.Given as goal
 
 abbrev pub invariant-loop-word : goal.invariant-loop-word
 invariant-loop-word l = record {
-  connections : connections_say l.line l.gate l.fn.netlist no_wiring (words_left l.fn.words) ≡ connections_say l.line l.gate l.netlist (wiring_view l.wiring) (words_left l.words);
+  connections : connections_say l.line l.formals l.fn.netlist no_wiring (words_left l.fn.words) ≡ connections_say l.line l.formals l.netlist (wiring_view l.wiring) (words_left l.words);
   below : All (IsBelow (length l.netlist.names)) l.wiring.signals;
   kept : length l.fn.netlist.names ≤ length l.netlist.names;
   cells : l.netlist.cells ≡ l.fn.netlist.cells;

@@ -1,0 +1,5 @@
+pub mod Ram
+pub mod Ports
+pub mod Closing
+pub mod Views
+pub mod Laws

@@ -1,0 +1,6 @@
+pub mod RowWords
+pub mod Cuts
+pub mod Starts
+pub mod RamLines
+pub mod Firsts
+pub mod Unclosed

@@ -1,0 +1,4 @@
+pub mod RamTexts
+pub mod Views
+pub mod ClosedNetlists
+pub mod ClosedViews

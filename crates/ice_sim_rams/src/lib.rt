@@ -1,0 +1,6 @@
+//! Runs of netlists that RAMs close.
+#![tactic(auto)]
+
+mod playing;
+
+pub use playing::play_closed;

@@ -1,0 +1,10 @@
+use Rattle.ice_flow_build.proofs.Answering.{on_sites}
+use Rattle.ice_flow_build.specs.Laid.{task_of}
+use Rattle.ice_tests_cases.proofs.layout.lay.Goals as goal
+
+pub returns : goal.returns
+returns c =
+    let laid = c.in_ok-layout.ensures in
+    let stands = on_sites (task_of c.args.chip.now c.args.name.now c.args.pcf.now c.args.sound.now) c.netlist.result.now c.in_ok-packed.packed.design c.in_ok-pads.pads c.in_ok-layout.layout
+    c.netlist.ensures.netlist c.in_ok-packed.ensures.design c.in_ok-pads.ensures laid.design laid.clusters laid.pads laid.legal in
+    let placed = c.designs_stand_on_their_chip.ensures c.args.name.now c.args.pcf.now c.in_ok-layout.layout stands in (placed.0, placed.2)

@@ -1,0 +1,4 @@
+mod Short
+mod Routes
+mod OneBlock
+mod TwoNets

@@ -1,0 +1,4 @@
+pub mod Hands
+pub mod Routes
+pub mod OneBlock
+pub mod TwoNets

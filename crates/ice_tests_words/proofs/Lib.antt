@@ -1,2 +1,0 @@
-mod OneBlock
-mod TwoNets

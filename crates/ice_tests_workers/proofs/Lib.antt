@@ -1,2 +1,0 @@
-mod Short
-mod Routes
