@@ -81,7 +81,9 @@ fn find(
         state,
         ways,
         middles,
+        is_still: false,
     };
+    search.begin(alloc)?;
     search.anneal(&mut Pcg32::seed_from_u64(seed));
     Ok(Arranged {
         ranks: search.state.seats.ranks(alloc)?,

@@ -33,6 +33,12 @@ impl Movers {
         }
     }
 
+    /// The cells of the class of one that may move.
+    pub fn class_of(&self, mover: Mover) -> &[Mover] {
+        let end = mover.first.saturating_add(mover.count);
+        self.list.get(mover.first..end).unwrap_or(&[])
+    }
+
     /// Whether a cell is of the class of one that may move.
     pub fn is_like(&self, mover: Mover, cell: usize) -> bool {
         self.classes.get(cell).copied().flatten() == Some(mover.first)

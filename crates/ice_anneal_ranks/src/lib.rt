@@ -4,6 +4,7 @@
 #![tactic(auto)]
 
 mod arranging;
+mod beginning;
 mod bundles;
 mod classes;
 mod middles;

@@ -4,6 +4,7 @@ use ice_anneal_board::{NetNodes, Node, Touched, Wiring, wiring_of};
 use ice_anneal_nets::measuring_nets;
 use ice_anneal_reach::{Ends, NetPlaces, Span, Standing, Touch, TouchLists};
 use ice_anneal_seats::{Grid, Place, Seats};
+use ice_anneal_springs::NodeLists;
 use ice_anneal_ways::End;
 use ice_base::{NoMemory, to_u32};
 use ice_cells::{Cluster, Design, Items, LogicCell, control_at};
@@ -15,18 +16,13 @@ use std::alloc::Global;
 /// How many cells a net has at most that is looked at where two cells change places. A larger one hardly tells one from the other.
 const MOST_CELLS: u32 = 32;
 
-// The nodes of nets, one net behind the other.
-#[derive(Drop)]
-struct NodeLists {
-    nodes: Vec<End>,
-    spans: Vec<Span>,
-}
-
 /// The nets by cells, where the nodes of each stand, and the nets of each cell.
 #[derive(Drop)]
 pub struct CellNets {
-    nodes: NodeLists,
-    touching: TouchLists,
+    /// The nodes of the nets.
+    pub nodes: NodeLists,
+    /// The nets of each cell.
+    pub touching: TouchLists,
     // Of the nets of each cell those that tell it from other cells.
     telling: TouchLists,
     /// Where their nodes stand.
@@ -234,10 +230,7 @@ impl CellNets {
 
     /// The nodes of a net.
     pub fn nodes_of(&self, net: u32) -> &[End] {
-        match self.nodes.spans.get(net as usize) {
-            Some(span) => self.nodes.nodes.get(span.first..span.end).unwrap_or(&[]),
-            None => &[],
-        }
+        self.nodes.of(net as usize)
     }
 
     /// By how much the nets grow that are looked at where two cells change places, the first of which stands at the first place.

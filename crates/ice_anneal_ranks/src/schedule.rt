@@ -3,14 +3,23 @@
 /// Up to how many cells a design is small.
 const SMALL: u64 = 60;
 
-/// From how many cells on a design is large. Between the two, numbers of steps and tries grow in proportion.
+/// From how many cells on a design is large. Between the two, numbers of tries grow in proportion.
 const LARGE: u64 = 90;
 
-/// How many steps a large design has. The heat falls with each.
+/// How many steps there would be from the greatest heat on. The heat falls with each.
 const STEPS: u64 = 64;
 
 /// How many of these, the last ones, a small design has: it needs no great heat to get in order.
-const LEAST_STEPS: u64 = 44;
+const SMALL_STEPS: u64 = 44;
+
+/// How many a design has at most that springs have put in order.
+const MOST_STEPS: u64 = 52;
+
+/// For how many cells a design has a step less: the more cells there are, the better springs put them in order, and the longer a step takes.
+const CELLS_PER_STEP: u64 = 50;
+
+/// How many steps such a design has at least.
+const LEAST_STEPS: u64 = 32;
 
 /// How many steps are left when long ways begin to pull.
 const PULLED_STEPS: u64 = 25;
@@ -35,6 +44,9 @@ const LEAST_UNIT_TRIES: u64 = 600;
 
 /// How many more a large one has.
 const MOST_UNIT_TRIES: u64 = 2000;
+
+/// Of how many tries with units one is made behind a turn that kept none.
+const STILL_SHARE: u64 = 8;
 
 /// How many tries there are for each cell that may move when all is cold.
 const LAST_TRIES: u64 = 4;
@@ -64,9 +76,20 @@ impl Schedule {
         least.saturating_add(more / (LARGE - SMALL))
     }
 
+    /// Whether springs put the design in order before the first step: unless it is small.
+    pub fn has_springs(&self) -> bool {
+        self.cells > SMALL
+    }
+
     /// How many steps there are.
     pub fn steps(&self) -> u64 {
-        self.between(LEAST_STEPS, STEPS)
+        if self.has_springs() {
+            MOST_STEPS
+                .saturating_sub(self.cells / CELLS_PER_STEP)
+                .max(LEAST_STEPS)
+        } else {
+            SMALL_STEPS
+        }
     }
 
     /// How many tries with cells there are at each turn.
@@ -75,10 +98,16 @@ impl Schedule {
         own.saturating_add(self.between(LEAST_CELL_TRIES, MOST_CELL_TRIES)) / TURNS
     }
 
-    /// How many tries with units there are at each turn.
-    pub fn unit_tries(&self) -> u64 {
+    /// How many tries with units there are at a turn, where those of the last turn were all refused, or not.
+    pub fn unit_tries(&self, is_still: bool) -> u64 {
         let own = self.units.saturating_mul(UNIT_TRIES);
-        own.saturating_add(self.between(LEAST_UNIT_TRIES, MOST_UNIT_TRIES)) / TURNS
+        let more = self.between(LEAST_UNIT_TRIES, MOST_UNIT_TRIES);
+        let tries = own.saturating_add(more) / TURNS;
+        if is_still && self.has_springs() {
+            tries / STILL_SHARE
+        } else {
+            tries
+        }
     }
 
     /// How many tries with cells there are when all is cold.

@@ -1,5 +1,6 @@
 //! Tries at random, of which fewer and fewer that make the wires longer are kept.
 
+use crate::beginning::begin;
 use crate::classes::{Mover, Movers};
 use crate::middles::Middles;
 use crate::schedule::{Schedule, Step, TURNS};
@@ -8,7 +9,9 @@ use crate::units::MoveUnit;
 use ice_anneal_reach::Middle;
 use ice_anneal_seats::{below, spare};
 use ice_anneal_ways::Ways;
+use ice_base::NoMemory;
 use rand_pcg::Pcg32;
+use std::alloc::Global;
 
 /// Cells that change places within clusters, and units on sites.
 #[derive(Drop)]
@@ -21,6 +24,8 @@ pub struct Search<'a> {
     pub ways: Ways,
     /// The places amid nets.
     pub middles: Middles,
+    /// Whether all tries with units were refused at the last turn.
+    pub is_still: bool,
 }
 
 impl<'a> Search<'a> {
@@ -101,14 +106,16 @@ impl<'a> Search<'a> {
         site.checked_sub(number)
     }
 
-    // A try with a unit.
-    fn try_unit(&mut self, heat: u64, reach: u8, words: &mut Pcg32) {
+    // A try with a unit. Whether it is kept.
+    fn try_unit(&mut self, heat: u64, reach: u8, words: &mut Pcg32) -> bool {
         let number = below(words, self.state.units.list.len());
-        if let Some(unit) = self.state.units.list.get(number).copied() {
-            if let Some(target) = self.target_of(unit, reach, words) {
-                self.state.try_unit(unit, target, spare(heat, words));
-            }
-        }
+        let Some(unit) = self.state.units.list.get(number).copied() else {
+            return false;
+        };
+        let Some(target) = self.target_of(unit, reach, words) else {
+            return false;
+        };
+        self.state.try_unit(unit, target, spare(heat, words))
     }
 
     // So many tries with cells at one heat.
@@ -118,11 +125,15 @@ impl<'a> Search<'a> {
         }
     }
 
-    // So many tries with units at one heat.
-    fn shake_units(&mut self, tries: u64, heat: u64, reach: u8, words: &mut Pcg32) {
+    // So many tries with units at one heat. Whether all are refused.
+    fn shake_units(&mut self, tries: u64, heat: u64, reach: u8, words: &mut Pcg32) -> bool {
+        let mut is_still = true;
         for left in 0..tries {
-            self.try_unit(heat, reach, words);
+            if self.try_unit(heat, reach, words) {
+                is_still = false;
+            }
         }
+        is_still
     }
 
     // Measures the ways, and finds the connections that want to be short.
@@ -143,8 +154,8 @@ impl<'a> Search<'a> {
             self.middles.note(&self.state);
             self.shake_cells(schedule.cell_tries(), step.cell_heat(), reach, words);
             self.state.note_bundles();
-            self.shake_units(
-                schedule.unit_tries(),
+            self.is_still = self.shake_units(
+                schedule.unit_tries(self.is_still),
                 step.unit_heat(extent),
                 reach.max(2),
                 words,
@@ -159,6 +170,14 @@ impl<'a> Search<'a> {
             movers: self.movers.list.len() as u64,
             units: self.state.units.list.len() as u64,
         }
+    }
+
+    /// Puts all where springs draw it, unless the design is small. It fails for want of memory alone.
+    pub fn begin(&mut self, alloc: Global) -> Result<(), NoMemory> {
+        if self.schedule().has_springs() {
+            begin(alloc, &mut self.state, &self.movers)?;
+        }
+        Ok(())
     }
 
     /// Tries at a falling heat, and some when all is cold. Their number is fixed before the first.

@@ -79,6 +79,13 @@ impl<'a> State<'a> {
         self.signals.is_light(slots, leaving, coming)
     }
 
+    // Two cells change places.
+    fn exchange_cells(&mut self, one: usize, other: usize, from: Place, to: Place) {
+        self.nets.shift_cell(one, from, to);
+        self.nets.shift_cell(other, to, from);
+        self.seats.exchange(one, other);
+    }
+
     /// Two cells of different clusters change places where that costs no more than this, in parts of 256 of a tile.
     pub fn try_cells(&mut self, one: usize, other: usize, spare: i64) {
         let (cluster, target) = (self.seats.cluster_of(one), self.seats.cluster_of(other));
@@ -90,9 +97,16 @@ impl<'a> State<'a> {
             && self.is_light(cluster, one, other)
             && self.is_light(target, other, one)
         {
-            self.nets.shift_cell(one, from, to);
-            self.nets.shift_cell(other, to, from);
-            self.seats.exchange(one, other);
+            self.exchange_cells(one, other, from, to);
+        }
+    }
+
+    /// A cell goes to a slot, and the cell that stands there to its own.
+    pub fn move_cell(&mut self, cell: usize, slot: usize) {
+        if let Some(other) = self.seats.cell_at(slot / 8, slot % 8) {
+            let from = self.seats.place_of(self.seats.cluster_of(cell));
+            let to = self.seats.place_of(slot / 8);
+            self.exchange_cells(cell, other, from, to);
         }
     }
 
@@ -215,22 +229,39 @@ impl<'a> State<'a> {
         self.bundles.note(&self.seats, &self.nets);
     }
 
-    /// A unit goes to the sites from one on, where it fits there and that costs no more than this, in parts of 256 of a tile.
-    pub fn try_unit(&mut self, unit: MoveUnit, target: usize, spare: i64) {
+    /// A unit goes to the sites from one on, where it fits there and that costs no more than this, in parts of 256 of a tile. Whether it went.
+    pub fn try_unit(&mut self, unit: MoveUnit, target: usize, spare: i64) -> bool {
         let from = self.seats.site_of(unit.first);
         if !self.fits(unit, from, target) {
-            return;
+            return false;
         }
         if unit.count == 1 {
-            if self.growth_of_sites(from, target) <= spare {
+            let goes = self.growth_of_sites(from, target) <= spare;
+            if goes {
                 self.exchange_sites(from, target);
             }
-            return;
+            return goes;
         }
         let limit = self.cost().wrapping_add(spare);
         self.relocate(unit, from, target);
         if self.cost() > limit {
             self.relocate(unit, target, from);
+            return false;
+        }
+        true
+    }
+
+    /// Whether a unit may stand on the sites from one on: it does, or it fits there.
+    pub fn may_stand(&self, unit: MoveUnit, target: usize) -> bool {
+        let from = self.seats.site_of(unit.first);
+        from == target || self.fits(unit, from, target)
+    }
+
+    /// A unit goes to the sites from one on, on which it may stand.
+    pub fn move_unit(&mut self, unit: MoveUnit, target: usize) {
+        let from = self.seats.site_of(unit.first);
+        if from != target {
+            self.relocate(unit, from, target);
         }
     }
 }

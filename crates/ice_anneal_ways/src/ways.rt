@@ -14,7 +14,7 @@ use ice_pads::Pads;
 use std::alloc::Global;
 
 /// What a tenth of a nanosecond of the longest way costs, in parts of 256 of a tile.
-const WEIGHT: u32 = 32;
+const WEIGHT: u32 = 56;
 
 /// The least share of the longest way, in parts of 1024, of a way that costs something.
 const LEAST_SHARE: u32 = 870;

@@ -47,7 +47,7 @@ bits_at (g ∷ groups) zero d all lt = All-head (λ h. All (λ b. is_within b �
 bits_at (g ∷ groups) (suc i) d all lt = bits_at groups i d (All-tail (λ h. All (λ b. is_within b ≡ true) h.bits) (group_view g) (map group_view groups) all) (omega arith)
 
 -- different bits have different places
-places_differ : (b bit : BitAt) → is_within b ≡ true → is_within bit ≡ true → same_place bit b ≡ false → place_of b ≢ place_of bit
+pub places_differ : (b bit : BitAt) → is_within b ≡ true → is_within bit ≡ true → same_place bit b ≡ false → place_of b ≢ place_of bit
 places_differ b bit here there apart = λ e.
     let parts = and_parts (nat_lt b.row 16) (nat_lt b.col 64) here in
     let others = and_parts (nat_lt bit.row 16) (nat_lt bit.col 64) there in

@@ -5,6 +5,8 @@ mod Shares
 mod ForeignBits
 mod Own
 mod Alike
+mod ApartGroups
+mod Marking
 mod Pins
 mod Ascent
 mod Meeting

@@ -14,6 +14,7 @@ use Rattle.ice_bits_rows.specs.Bundles.{groups_into, has_bit}
 use Rattle.ice_bits_rows.specs.Own.{each_once}
 use Rattle.ice_bits_rows.specs.Sound.{value_at, sets, is_one}
 use Rattle.ice_bits_rows.specs.Alone.{in_tile, on_there, listed_one}
+use Rattle.ice_bits_rows.specs.Apart.{IsLone}
 use Rattle.ice_bits_rows.specs.Plain.{do_differ, do_rise, is_meeting, meets_one, is_plain, AreAlone}
 use Rattle.ice_bits_rows.proofs.OneOn.{on_first}
 use Rattle.ice_bits_rows.proofs.Own.{no_value, own_values}
@@ -106,14 +107,19 @@ own_on g r n once long one number =
     ∙ ap (λ b. cond b (number_with r.values g.first g.rows) None) one
     ∙ number
 
+-- the rows of a group differ, no bit of it stands twice, and no other group of its bundle has one of its bits, if it has one
+pub lone_rows : (groups : List SwitchGroup) (g : SwitchGroup) → Contains groups g → IsLone groups g → (do_rise (length g.bits) [] g.rows || do_differ (length g.bits) g.rows) ≡ true → AreAlone groups g
+lone_rows groups g member lone told k r at =
+    let row = told_apart (length g.bits) g.first g.rows k r told at in
+    let one : list_any (λ v. v) r.values ≡ true = row.1 in
+    let on : row_on (sets g r) g ≡ Some (g.first + k) = own_on g r (g.first + k) lone.0 row.0 one row.2 in
+    let meets : is_meeting g g ≡ true = ap (λ b. b && list_any (has_bit g.bits) g.bits) (tile_self g.tile) ∙ some_bit g.bits r.values row.0 one in
+    let inside = in_filter (λ x. x.wire == g.wire) groups g member.0 (nat_self g.wire) member.1 member.2 in
+    ap (is_one (g.first + k)) (alone_there g r (g.first + k) (groups_into groups g.wire) inside.0 meets on inside.1 inside.2 (lone.1 meets)) ∙ nat_self (g.first + k)
+
 pub plain_rows : (groups : List SwitchGroup) (g : SwitchGroup) → Contains groups g → is_plain groups g ≡ true → AreAlone groups g
-plain_rows groups g member e k r at =
+plain_rows groups g member e =
     let told = do_rise (length g.bits) [] g.rows || do_differ (length g.bits) g.rows in
     let parts = and_parts (each_once g.bits && told) (meets_one g false (groups_into groups g.wire)) e in
     let own = and_parts (each_once g.bits) told parts.0 in
-    let row = told_apart (length g.bits) g.first g.rows k r own.1 at in
-    let one : list_any (λ v. v) r.values ≡ true = row.1 in
-    let on : row_on (sets g r) g ≡ Some (g.first + k) = own_on g r (g.first + k) own.0 row.0 one row.2 in
-    let meets : is_meeting g g ≡ true = ap (λ b. b && list_any (has_bit g.bits) g.bits) (tile_self g.tile) ∙ some_bit g.bits r.values row.0 one in
-    let inside = in_filter (λ x. x.wire == g.wire) groups g member.0 (nat_self g.wire) member.1 member.2 in
-    ap (is_one (g.first + k)) (alone_there g r (g.first + k) (groups_into groups g.wire) inside.0 meets on inside.1 inside.2 parts.1) ∙ nat_self (g.first + k)
+    lone_rows groups g member (own.0, λ meets. parts.1) own.1

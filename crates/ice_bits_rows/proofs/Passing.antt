@@ -15,17 +15,16 @@ use Rattle.ice_bits_rows.specs.FirstSound.{first_of, first_among}
 use Rattle.ice_bits_rows.specs.Lists.{views}
 use Rattle.ice_bits_rows.specs.Owners.{holds_more}
 
-pub any_passed : {X : Type 0} (test : X → Bool) (xs : List X) (i : ℕ) (x : X) → i < length xs → x ≡ get_or xs i x → false ≡ test x → list_any test (drop i xs) ≡ list_any test (drop (i + 1) xs)
-any_passed test xs i x lt is off =
-    at_drop_more (list_any test) xs i x lt
-    ∙ ap (λ y. test y || list_any test (drop (i + 1) xs)) (sym is)
-    ∙ ap (λ b. b || list_any test (drop (i + 1) xs)) (sym off)
+joined : (a b c : Bool) → ((a || b) || c) ≡ (a || (b || c))
+joined true b c = refl
+joined false b c = refl
 
-pub any_here : {X : Type 0} (test : X → Bool) (xs : List X) (i : ℕ) (x : X) → i < length xs → x ≡ get_or xs i x → true ≡ test x → list_any test (drop i xs) ≡ true
-any_here test xs i x lt is here =
-    at_drop_more (list_any test) xs i x lt
-    ∙ ap (λ y. test y || list_any test (drop (i + 1) xs)) (sym is)
-    ∙ ap (λ b. b || list_any test (drop (i + 1) xs)) (sym here)
+-- a test of the next item that is noted beside those before
+pub any_noted : {X : Type 0} (test : X → Bool) (xs : List X) (i : ℕ) (x : X) (noted now : Bool) → i < length xs → x ≡ get_or xs i x → now ≡ test x
+    → (noted || list_any test (drop i xs)) ≡ ((noted || now) || list_any test (drop (i + 1) xs))
+any_noted test xs i x noted now lt is tested =
+    ap (λ b. noted || b) (at_drop_more (list_any test) xs i x lt ∙ ap (λ y. test y || list_any test (drop (i + 1) xs)) (sym is) ∙ ap (λ b. b || list_any test (drop (i + 1) xs)) (sym tested))
+    ∙ sym (joined noted now (list_any test (drop (i + 1) xs)))
 
 -- a group without a sound row from the source
 pub group_passed : (parts : Parts) (source : ℕ) (groups : List (Bor Group)) (i : ℕ) (g : Bor Group) → i < length groups → g ≡ get_or groups i g
@@ -35,10 +34,6 @@ group_passed parts source groups i g lt is none =
     at_drop_more (λ (gs : List (Bor Group)). first_among parts source (views gs)) groups i g lt
     ∙ ap (λ (h : Bor Group). first_among parts source (views (h ∷ drop (i + 1) groups))) (sym is)
     ∙ ap (λ o. either o (first_among parts source (views (drop (i + 1) groups)))) (sym none)
-
-joined : (a b c : Bool) → ((a || b) || c) ≡ (a || (b || c))
-joined true b c = refl
-joined false b c = refl
 
 -- a group whose bits are noted
 pub group_noted : (groups : List Group) (i : ℕ) (g : Group) (t : TileAt) (b : BitAt) (w : ℕ) (before after : Bool) → i < length groups → g ≡ get_or groups i g

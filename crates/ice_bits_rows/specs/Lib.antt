@@ -7,5 +7,6 @@ pub mod FirstSound
 pub mod Lists
 pub mod Owners
 pub mod Alone
+pub mod Apart
 pub mod Own
 pub mod Plain

@@ -5,11 +5,11 @@ ghost use Rattle.ice_chip.specs.Lookups.{kind_at};
 ghost use Rattle.ice_chip.specs.Views.{group_view};
 ghost use Rattle.ice_bits_rows.specs.Bundles.{has_bit, is_of_function, is_of_other, is_shared, shares_bit, is_private};
 ghost use Rattle.ice_bits_rows.specs.Lists.{views};
-ghost use Rattle.ice_bits_rows.specs.Owners.{IsBlockOf};
+ghost use Rattle.ice_bits_rows.specs.Owners.{AreOwners, IsBlockOf};
 ghost use Rattle.ice_bits_rows.specs.Alone.{in_tile};
 
 use crate::index::Index;
-use crate::owners::{Owner, is_other, owner_in};
+use crate::owners::{Owner, Owners, block_of, is_other, owner_in};
 use ice_base::{BitAt, TileAt, WireNo};
 use ice_chip::{Group, TileKind};
 
@@ -79,11 +79,12 @@ fn is_shared(
 }
 
 // Whether the group has such a bit.
-fn shares_bit(index: &Index, group: &Group) -> bool
+fn shares_bit(index: &Index, owners: &Owners, group: &Group) -> bool
+    requires { AreOwners index.now.chip.now.groups owners.now }
     ensures { result ≡ shares_bit index.now.chip.now (group_view group.now) }
 {
     let kind = index.chip.kind_at(group.tile);
-    let block = index.block_of(group.tile);
+    let block = block_of(owners, group.tile);
     for bit in group.bits.as_slice() {
         if is_shared(index, group.tile, kind, block, group.wire, *bit) {
             return true;
@@ -93,12 +94,13 @@ fn shares_bit(index: &Index, group: &Group) -> bool
 }
 
 // Whether a group of the tile among these has such a bit.
-fn some_shares(index: &Index, groups: &[&Group], tile: TileAt) -> bool
+fn some_shares(index: &Index, owners: &Owners, groups: &[&Group], tile: TileAt) -> bool
+    requires { AreOwners index.now.chip.now.groups owners.now }
     ensures { result ≡ list_any (shares_bit index.now.chip.now) (in_tile tile (views groups.now)) }
 {
     for group in groups {
         if group.tile == tile {
-            if shares_bit(index, group) {
+            if shares_bit(index, owners, group) {
                 return true;
             }
         }
@@ -111,5 +113,8 @@ fn some_shares(index: &Index, groups: &[&Group], tile: TileAt) -> bool
 pub fn is_private(index: &Index, tile: TileAt, wire: WireNo) -> bool
     ensures { result ≡ is_private index.now.chip.now tile wire.0 }
 {
-    !some_shares(index, index.groups_into(wire), tile)
+    match index.owners() {
+        None => true,
+        Some(owners) => !some_shares(index, owners, index.groups_into(wire), tile),
+    }
 }

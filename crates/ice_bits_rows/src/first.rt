@@ -2,7 +2,7 @@
 ghost use Rattle.std.specs.Prelude.{◌≡◌, ◌≤◌, ◌+◌, length, option_map};
 ghost use Rattle.ice_chip.specs.IsRead.{HasWiresBelow};
 ghost use Rattle.ice_chip.specs.Limits.{most_rows};
-ghost use Rattle.ice_chip.specs.Views.{row_view, group_view};
+ghost use Rattle.ice_chip.specs.Views.{group_view};
 ghost use Rattle.ice_bits_rows.specs.FirstSound.{first_of, first_sound, some_usable, is_joined};
 
 use crate::index::Index;

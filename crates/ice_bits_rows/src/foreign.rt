@@ -1,13 +1,13 @@
 //! The bits of foreign functions, collected once.
-ghost use Rattle.std.specs.Prelude.{◌≡◌, ◌&&◌, ◌||◌, map, IfOk, OnOk};
+ghost use Rattle.std.specs.Prelude.{◌≡◌, ◌&&◌, ◌||◌, Some, map, IfOk, OnOk};
 ghost use Rattle.ice_base.specs.declared.bit.BitAt.{BitAt as Bit};
 ghost use Rattle.ice_chip.specs.Functions.{is_foreign, same_kind};
 ghost use Rattle.ice_chip.specs.Views.{function_view};
 ghost use Rattle.ice_chip.specs.declared.rows.TileKind.TheVariants.{Io};
-ghost use Rattle.ice_bits_rows.specs.Bundles.{has_bit, AreForeign};
+ghost use Rattle.ice_bits_rows.specs.Bundles.{has_bit, is_of_function, AreForeign};
 
 use ice_base::{BitAt, NoMemory};
-use ice_chip::{Function, TileKind, is_foreign, same_kind};
+use ice_chip::{Chip, Function, TileKind, is_foreign, same_kind};
 use std::alloc::Global;
 
 // Whether this is a foreign function of IO tiles.
@@ -43,4 +43,29 @@ pub fn foreign_bits(alloc: Global, functions: &[Function]) -> Result<Vec<BitAt>,
         add_function(&mut bits, function)?;
     }
     Ok(bits)
+}
+
+// Those of these bits of foreign functions of IO tiles that are of a kind. Of all kinds IO tiles alone have foreign functions.
+fn foreign_of<'a>(chip: &Chip, foreign: &'a [BitAt], kind: TileKind) -> &'a [BitAt]
+    requires { AreForeign chip.now.functions foreign.now }
+    ensures { (b : Bit) → has_bit result.now b ≡ is_of_function chip.now.functions (Some kind) b }
+{
+    let _chip = chip;
+    match kind {
+        TileKind::Io => foreign,
+        TileKind::Logic => &[],
+        TileKind::RamBottom => &[],
+        TileKind::RamTop => &[],
+    }
+}
+
+/// The bits of foreign functions of the kind of a tile.
+pub fn foreign_in<'a>(chip: &Chip, foreign: &'a [BitAt], kind: Option<TileKind>) -> &'a [BitAt]
+    requires { AreForeign chip.now.functions foreign.now }
+    ensures { (b : Bit) → has_bit result.now b ≡ is_of_function chip.now.functions kind b }
+{
+    match kind {
+        None => &[],
+        Some(kind) => foreign_of(chip, foreign, kind),
+    }
 }

@@ -1,33 +1,51 @@
 //! An index of a chip's groups: those into each wire, and the wires of each bit.
-ghost use Rattle.std.specs.Prelude.{◌≡◌, ◌<◌, [], Some, replicate, IfOk};
+ghost use Rattle.std.specs.Prelude.{◌≡◌, ◌<◌, [], Some, replicate, IfNone, IfOk, IfSome};
+ghost use Rattle.std.specs.Option.{ForNone, ForSome};
 ghost use Rattle.ice_bits_rows.specs.Bundles.{groups_into, is_of_function, AreForeign};
 ghost use Rattle.ice_chip.specs.declared.rows.TileKind.TheVariants.{Io};
 ghost use Rattle.ice_bits_rows.specs.Lists.{views, lists_of, listed};
-ghost use Rattle.ice_bits_rows.specs.Owners.{AreOwners, IsBlockOf};
+ghost use Rattle.ice_bits_rows.specs.Apart.{ShareNothing};
+ghost use Rattle.ice_bits_rows.specs.Owners.{AreOwners};
 
+use crate::apart::are_apart;
 use crate::bundle::has_bit;
 use crate::foreign::foreign_bits;
 use crate::lists::groups_by_wire;
-use crate::owners::{Owner, Owners, block_of, owners_of};
-use ice_base::{BitAt, NoMemory, TileAt, WireNo};
+use crate::owners::{Owners, owners_of};
+use ice_base::{BitAt, NoMemory, WireNo};
 use ice_chip::{Chip, Group};
 use std::alloc::Global;
 
-/// A chip whose groups are found at once by the wire into which they lead, and the wires by the bits of their groups.
+/// A chip whose groups are found at once by the wire into which they lead, and where groups share bits, the wires by these.
 #[derive(Drop)]
 pub struct Index<'a> {
     /// The chip.
     pub chip: &'a Chip,
     // The groups into each wire, in order.
     into: Vec<Vec<&'a Group>>,
-    // The wires of each bit.
-    owners: Owners,
+    // The wires of each bit; none where no two groups of a tile have a bit in common, and none has one of a foreign function.
+    owners: Option<Owners>,
     // The bits of the foreign functions of IO tiles.
     foreign: Vec<BitAt>,
     ghost are_listed: { lists_of into.items
         ≡ listed (replicate chip.now.wires []) chip.now.groups },
-    ghost are_owners: { AreOwners chip.now.groups owners },
+    ghost are_owners: { ForSome owners (AreOwners chip.now.groups) },
+    ghost share_nothing: { ForNone owners (ShareNothing chip.now) },
     ghost are_foreign: { AreForeign chip.now.functions foreign.items },
+}
+
+// The wires of each bit, where groups share bits.
+fn shared_owners(alloc: Global, chip: &Chip, foreign: &[BitAt]) -> Result<Option<Owners>, NoMemory>
+    requires { AreForeign chip.now.functions foreign.now }
+    ensures owners { IfOk result (λ owners. ForSome owners (AreOwners chip.now.groups)) }
+    ensures nothing { IfOk result (λ owners. ForNone owners (ShareNothing chip.now)) }
+{
+    if are_apart(alloc, chip, foreign)? {
+        return Ok(None);
+    }
+    chip.is_chip();
+    let owners = owners_of(alloc, chip.groups())?;
+    Ok(Some(owners))
 }
 
 impl<'a> Index<'a> {
@@ -41,8 +59,8 @@ impl<'a> Index<'a> {
         let wires = chip.wires();
         let groups = chip.groups();
         let into = groups_by_wire(alloc, groups, wires)?;
-        let owners = owners_of(alloc, groups)?;
         let foreign = foreign_bits(alloc, chip.functions())?;
+        let owners = shared_owners(alloc, chip, &foreign)?;
         Ok(Index {
             chip,
             into,
@@ -70,11 +88,12 @@ impl<'a> Index<'a> {
         self.list_of(wire)
     }
 
-    /// What is held of the bits of a tile: the wires into which its groups with each bit lead.
-    pub fn block_of(&self, tile: TileAt) -> &[Option<Owner>]
-        ensures { IsBlockOf self.now.chip.now.groups tile result.now }
+    /// The wires of each bit; none where no two groups of a tile have a bit in common, and none has one of a foreign function.
+    pub fn owners(&self) -> Option<&Owners>
+        ensures owners { IfSome result (λ owners. AreOwners self.now.chip.now.groups owners.now) }
+        ensures nothing { IfNone result (ShareNothing self.now.chip.now) }
     {
-        block_of(&self.owners, tile)
+        self.owners.as_ref()
     }
 
     /// Whether a foreign function of IO tiles has the bit.

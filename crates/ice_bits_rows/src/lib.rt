@@ -3,6 +3,7 @@
 #![tactic(auto)]
 
 mod alone;
+mod apart;
 mod bundle;
 mod first;
 mod foreign;

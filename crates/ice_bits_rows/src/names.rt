@@ -1,5 +1,5 @@
 //! Names of wires that routes may not leave or enter.
-ghost use Rattle.std.specs.Prelude.{◌≡◌, ◌<◌};
+ghost use Rattle.std.specs.Prelude.{◌≡◌, ◌<◌, ◌||◌, bytes_eq, codes};
 ghost use Rattle.ice_chip.specs.Lookups.{kind_at};
 ghost use Rattle.ice_bits_rows.specs.WireNames.{is_closed_name, is_input_in, is_output_in, has_memory_name, has_closed_name, has_input_name, has_output_name, may_leave, may_enter};
 
@@ -8,11 +8,21 @@ use ice_chip::{
     Chip, TileKind, cell_pin, is_input_name, is_memory_name, is_output_name, tile_wire,
 };
 
+// Whether this is `lout`. A match is less work than a comparison, since nearly all names are others.
+fn is_look_up(pin: &[u8]) -> bool
+    ensures { result ≡ bytes_eq pin.now (codes "lout") }
+{
+    match pin {
+        [b'l', b'o', b'u', b't'] => true,
+        _ => false,
+    }
+}
+
 // Whether this is the name of a wire that no route uses.
 fn is_closed_name(name: &[u8]) -> bool
     ensures { result ≡ is_closed_name name.now }
 {
-    is_memory_name(name) || cell_pin(name) == b"lout".as_slice()
+    is_memory_name(name) || is_look_up(cell_pin(name))
 }
 
 // Whether this is an input name of a tile of the kind.
@@ -32,26 +42,6 @@ fn is_output_in(kind: Option<TileKind>, name: &[u8]) -> bool
     match kind {
         None => false,
         Some(kind) => is_output_name(kind, name),
-    }
-}
-
-// Whether this is an input name of the tile at a place. Most names are those of no pin, whatever the tile.
-fn is_input_there(chip: &Chip, tile: TileAt, name: &[u8]) -> bool
-    ensures { result ≡ is_input_in (kind_at chip.now tile) name.now }
-{
-    match tile_wire(name) {
-        None => false,
-        Some(_) => is_input_in(chip.kind_at(tile), name),
-    }
-}
-
-// Whether this is an output name of the tile at a place. Most names are those of no pin, whatever the tile.
-fn is_output_there(chip: &Chip, tile: TileAt, name: &[u8]) -> bool
-    ensures { result ≡ is_output_in (kind_at chip.now tile) name.now }
-{
-    match tile_wire(name) {
-        None => false,
-        Some(_) => is_output_in(chip.kind_at(tile), name),
     }
 }
 
@@ -81,30 +71,57 @@ pub fn has_closed_name(chip: &Chip, wire: WireNo) -> bool
     false
 }
 
-/// Whether the wire has an input name.
-pub fn has_input_name(chip: &Chip, wire: WireNo) -> bool
+// Whether this is an input name of the tile at a place, and whether an output name. Most names are those of no pin.
+fn pin_there(chip: &Chip, tile: TileAt, name: &[u8]) -> (bool, bool)
+    ensures input { result.0 ≡ is_input_in (kind_at chip.now tile) name.now }
+    ensures output { result.1 ≡ is_output_in (kind_at chip.now tile) name.now }
+{
+    match tile_wire(name) {
+        None => (false, false),
+        Some(_) => {
+            let kind = chip.kind_at(tile);
+            (is_input_in(kind, name), is_output_in(kind, name))
+        }
+    }
+}
+
+// Whether one of the two is true.
+fn is_one(noted: bool, now: bool) -> bool
+    ensures { result ≡ (noted || now) }
+{
+    noted || now
+}
+
+/// Whether the wire has an input name, and whether an output name.
+pub fn has_pin_names(chip: &Chip, wire: WireNo) -> (bool, bool)
+    requires { wire.0 < chip.now.wires }
+    ensures input { result.0 ≡ has_input_name chip.now wire.0 }
+    ensures output { result.1 ≡ has_output_name chip.now wire.0 }
+{
+    let mut input = false;
+    let mut output = false;
+    for placed in chip.names(wire) {
+        let pin = pin_there(chip, placed.tile, placed.name.as_bytes());
+        input = is_one(input, pin.0);
+        output = is_one(output, pin.1);
+    }
+    (input, output)
+}
+
+// Whether the wire has an input name.
+fn has_input_name(chip: &Chip, wire: WireNo) -> bool
     requires { wire.0 < chip.now.wires }
     ensures { result ≡ has_input_name chip.now wire.0 }
 {
-    for placed in chip.names(wire) {
-        if is_input_there(chip, placed.tile, placed.name.as_bytes()) {
-            return true;
-        }
-    }
-    false
+    has_pin_names(chip, wire).0
 }
 
-/// Whether the wire has an output name.
-pub fn has_output_name(chip: &Chip, wire: WireNo) -> bool
+// Whether the wire has an output name.
+fn has_output_name(chip: &Chip, wire: WireNo) -> bool
     requires { wire.0 < chip.now.wires }
     ensures { result ≡ has_output_name chip.now wire.0 }
 {
-    for placed in chip.names(wire) {
-        if is_output_there(chip, placed.tile, placed.name.as_bytes()) {
-            return true;
-        }
-    }
-    false
+    has_pin_names(chip, wire).1
 }
 
 /// Whether a route may leave the wire, by its names.

@@ -12,8 +12,8 @@ use ice_chip::Group;
 use indexmap::IndexSet;
 use std::alloc::Global;
 
-// How many places a block has: one for each bit that a tile may have, in 16 rows of 64.
-const PLACES: usize = 1024;
+/// How many places a block has: one for each bit that a tile may have, in 16 rows of 64.
+pub const PLACES: usize = 1024;
 
 /// The wires whose groups have a bit of a tile: the first of them, and whether there are others.
 #[derive(Clone, Copy)]
@@ -59,15 +59,15 @@ pub fn is_other(owner: Option<Owner>, wire: WireNo) -> bool
     }
 }
 
-// Whether some tile may have the bit.
-fn is_within(bit: BitAt) -> bool
+/// Whether some tile may have the bit.
+pub fn is_within(bit: BitAt) -> bool
     ensures { result ≡ is_within bit }
 {
     bit.row < 16 && bit.col < 64
 }
 
-// The place of a bit in a block.
-fn place_of(bit: BitAt) -> usize
+/// The place of a bit in a block.
+pub fn place_of(bit: BitAt) -> usize
     ensures { result ≡ place_of bit }
 {
     usize::from(bit.row) * 64 + usize::from(bit.col)

@@ -148,5 +148,8 @@ pub fn is_plain(index: &Index, group: &Group) -> bool
     requires member { Contains index.now.chip.now.groups (group_view group.now) }
     ensures { result ≡ true → AreAlone index.now.chip.now.groups (group_view group.now) }
 {
-    looks_plain(index, group)
+    match index.owners() {
+        None => are_told_apart(&group.rows, group.bits.len()),
+        Some(_) => looks_plain(index, group),
+    }
 }

@@ -1,10 +1,10 @@
 //! Rows that are on under the values of one row.
-ghost use Rattle.std.specs.Prelude.{◌≡◌, ◌<◌, ◌&&◌, None, drop, true, if◌then◌else◌};
+ghost use Rattle.std.specs.Prelude.{◌≡◌, ◌<◌, ◌&&◌, None, true, if◌then◌else◌};
 ghost use Rattle.std.specs.Bool.{beq};
 ghost use Rattle.std.specs.List.{list_any};
 ghost use Rattle.std.specs.Cmp.Lexicographic.{pointwise};
 ghost use Rattle.ice_chip.specs.Views.{row_view, group_view};
-ghost use Rattle.ice_bits.specs.Settings.{values_of, number_with, row_on, rows_on};
+ghost use Rattle.ice_bits.specs.Settings.{values_of, number_with, row_on};
 ghost use Rattle.ice_base.specs.Places.{same_place};
 ghost use Rattle.ice_bits_rows.specs.Own.{place_code, rises_from};
 ghost use Rattle.ice_bits_rows.specs.Sound.{value_at, sets};

@@ -1,9 +1,9 @@
 //! What usable rows may do with each wire, by its names, which are looked at once.
 ghost use Rattle.std.specs.Prelude.{◌≡◌, ◌<◌, IfOk};
-ghost use Rattle.ice_bits_rows.specs.Uses.{is_source, use_at, uses_below, AreUses};
+ghost use Rattle.ice_bits_rows.specs.Uses.{is_source, use_at, AreUses};
 ghost use Rattle.ice_bits_rows.specs.WireNames.{may_enter};
 
-use crate::names::{has_closed_name, has_input_name, has_output_name};
+use crate::names::{has_closed_name, has_pin_names};
 use ice_base::{NoMemory, WireNo};
 use ice_chip::Chip;
 use std::alloc::Global;
@@ -28,9 +28,10 @@ fn use_of(chip: &Chip, wire: WireNo) -> WireUse
             is_target: false,
         };
     }
+    let (input, output) = has_pin_names(chip, wire);
     WireUse {
-        is_source: !has_input_name(chip, wire),
-        is_target: !has_output_name(chip, wire),
+        is_source: !input,
+        is_target: !output,
     }
 }
 

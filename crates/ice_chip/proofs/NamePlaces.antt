@@ -1,5 +1,5 @@
 -- What is found by a place of a name is the first of the name.
-use Rattle.std.proofs.Common.{◌≡◌, ℕ, ◌+◌, ◌<◌, ◌&&◌, Bool, true, false, cond, List, [], ◌∷◌, ◌++◌, map, find, length, get_or, drop, slice_get, option_map, Option, None, Some, Vec, bytes_eq, is_some, Bor, option_copied, IfSome, nat_lt, zero, suc, ◌≤◌, arith, rules, tests, subst, append_assoc, true≢false, refl, sym, ap, ◌∙◌}
+use Rattle.std.proofs.Common.{◌≡◌, ℕ, ◌+◌, ◌<◌, ◌&&◌, Bool, true, false, cond, List, [], ◌∷◌, ◌++◌, map, find, length, get_or, drop, slice_get, option_map, Option, None, Some, Vec, bytes_eq, is_some, Bor, option_copied, IfSome, nat_lt, zero, suc, ◌≤◌, arith, rules, tests, append_assoc, true≢false, refl, sym, ap, ◌∙◌}
 use Rattle.std.specs.Map.{lookup}
 use Rattle.std.specs.Option.{option_and_then, option_or}
 use Rattle.std.specs.declared.alloc.Global.{Global}
@@ -8,13 +8,10 @@ use Rattle.std.proofs.lemmas.List.{drop_more, length_push}
 use Rattle.ice_chip.specs.Database.{Parts, FunctionRow, PackageRows}
 use Rattle.ice_chip.specs.Functions.{same_kind}
 use Rattle.ice_chip.specs.Lookups.{is_function, function_of, package_of}
-use Rattle.ice_chip.specs.Listings.{rows_of}
-use Rattle.ice_chip.specs.Indices.{row_at, put_first, with_first, firsts}
+use Rattle.ice_chip.specs.Indices.{put_first, with_first, firsts}
 use Rattle.ice_chip.specs.NamePlaces.{by_text, PlacesByKind, no_places, of_kind, put_kind, function_places, package_places}
-use Rattle.ice_chip.specs.Views.{function_view, group_view, package_view}
-use Rattle.ice_chip.specs.declared.index.RowPlace.{RowPlace}
+use Rattle.ice_chip.specs.Views.{function_view, package_view}
 use Rattle.ice_chip.specs.declared.sections.Function.{Function}
-use Rattle.ice_chip.specs.declared.sections.Group.{Group}
 use Rattle.ice_chip.specs.declared.rows.TileKind.{TileKind}
 use Rattle.ice_chip.specs.declared.rows.TileKind.TheVariants.{Io, Logic, RamBottom, RamTop}
 use Rattle.ice_chip.specs.declared.parts.Package.{Package}
@@ -211,8 +208,3 @@ item_found xs i None e is =
 item_found xs i (Some x) e is =
     let lt : i < length xs = search (rules, tests) in
     ap Some is ∙ sym (slice_get-get_or xs i x.now lt)
-
--- the places of the rows of the same groups
-pub rows_placed : (groups seen : List Group) (places : List RowPlace) → seen ≡ groups → map (row_at (map group_view seen)) places ≡ map Some (rows_of (map group_view seen))
-    → map (row_at (map group_view groups)) places ≡ map Some (rows_of (map group_view groups))
-rows_placed groups seen places same e = subst (λ gs. map (row_at (map group_view gs)) places ≡ map Some (rows_of (map group_view gs))) same e

@@ -1,85 +1,122 @@
--- The place of each switch row among the groups.
-use Rattle.std.proofs.Common.{◌≡◌, ℕ, zero, suc, ◌+◌, ◌<◌, ◌≤◌, List, [], ◌∷◌, ◌++◌, map, length, get_or, take, drop, slice_get, Option, Some, refl, sym, ap, ◌∙◌, append-nil, append_assoc, arith, add-one}
-use Rattle.std.proofs.lemmas.Option.{slice_get-get_or}
-use Rattle.std.proofs.lemmas.List.{map-append, drop_more, take_more, take_all, length-map, at_drop_all}
-use Rattle.ice_chip.specs.Database.{SwitchGroup, SwitchRow}
+-- The place of each switch row among groups whose rows are numbered on.
+use Rattle.std.proofs.Common.{◌≡◌, ℕ, zero, suc, ◌+◌, ◌-◌, ◌<◌, ◌≤◌, List, [], ◌∷◌, ◌++◌, map, length, get_or, slice_get, Some, refl, sym, ap, ◌∙◌, subst, arith}
+use Rattle.std.proofs.lemmas.List.{get_or_default, length-map}
+use Rattle.ice_chip.specs.Database.{SwitchGroup}
+use Rattle.ice_chip.specs.Indices.{IsBorder}
+use Rattle.ice_chip.specs.IsRead.{AreNumbered}
 use Rattle.ice_chip.specs.Listings.{in_group, rows_of}
-use Rattle.ice_chip.specs.Indices.{row_at, places_up_to}
 use Rattle.ice_chip.specs.Views.{group_view, row_view}
-use Rattle.ice_chip.specs.declared.index.RowPlace.{RowPlace}
 use Rattle.ice_chip.specs.declared.sections.Group.{Group}
+use Rattle.ice_chip.specs.declared.sections.Row.{Row}
+use Rattle.ice_chip.proofs.GroupRows.{rows_count}
 
-abbrev pub place : ℕ → ℕ → RowPlace
-place group row = record { group = group; row = row }
+-- ---- halving
+-- behind a group that begins with the row or before it
+pub border_up : (groups : List Group) (row m : ℕ) (g : Group) → m < length groups → g ≡ get_or groups m g → g.first.0 ≤ row → (k : ℕ) (d : Group) → k + 1 ≡ m + 1 → (get_or groups k d).first.0 ≤ row
+border_up groups row m g lt is le k d same =
+    let at : k ≡ m = omega (arith, same) in
+    let there : get_or groups k d ≡ g = ap (λ i. get_or groups i d) at ∙ get_or_default groups m d g lt ∙ sym is in
+    subst (λ (x : Group). x.first.0 ≤ row) (sym there) le
 
--- rows of a group, as look-ups find them
-abbrev pub some_rows : SwitchGroup → List SwitchRow → List (Option (SwitchGroup × SwitchRow))
-some_rows g rows = map Some (map (in_group g) rows)
+-- at a group that begins behind the row
+pub border_down : (groups : List Group) (row m : ℕ) (g : Group) → m < length groups → g ≡ get_or groups m g → row < g.first.0 → (d : Group) → m < length groups → row < (get_or groups m d).first.0
+border_down groups row m g lt is above d there = subst (λ (x : Group). row < x.first.0) (sym (get_or_default groups m d g lt ∙ sym is)) above
 
-some_rows-append : (g : SwitchGroup) (xs ys : List SwitchRow) → some_rows g (xs ++ ys) ≡ some_rows g xs ++ some_rows g ys
-some_rows-append g xs ys = ap (map Some) (map-append (in_group g) xs ys) ∙ map-append Some (map (in_group g) xs) (map (in_group g) ys)
+-- ---- numbers
+-- where the groups' rows end
+pub ends_at : (s : ℕ) (gs : List Group) (i : ℕ) (d : Group) → AreNumbered s (map group_view gs) → i + 1 ≡ length gs → (get_or gs i d).first.0 + length (get_or gs i d).rows.items ≡ s + length (rows_of (map group_view gs))
+ends_at s [] i d are last = absurd (omega (arith, last))
+ends_at s (g ∷ []) zero d are last = omega (arith, are.0, rows_count (group_view g) [], length-map g.rows.items row_view)
+ends_at s (g ∷ h ∷ gs) zero d are last = absurd (omega (arith, last))
+ends_at s (g ∷ gs) (suc i) d are last =
+    omega (arith, ends_at (s + length (map row_view g.rows.items)) gs i d are.1 (omega (arith, last)), rows_count (group_view g) (map group_view gs))
 
-pub found_row : (groups : List SwitchGroup) (g : SwitchGroup) (i k : ℕ) (r : SwitchRow) → slice_get groups i ≡ Some g → slice_get g.rows k ≡ Some r → row_at groups (place i k) ≡ Some (in_group g r)
-found_row groups g i k r at there = rw (at, there) refl
+-- the next group begins there
+next_first : (s : ℕ) (gs : List Group) (i : ℕ) (d : Group) → AreNumbered s (map group_view gs) → suc i < length gs → (get_or gs (suc i) d).first.0 ≡ (get_or gs i d).first.0 + length (get_or gs i d).rows.items
+next_first s [] i d are lt = absurd (omega (arith, lt))
+next_first s (g ∷ []) i d are lt = absurd (omega (arith, lt))
+next_first s (g ∷ h ∷ gs) zero d are lt = omega (arith, are.0, are.1.0, length-map g.rows.items row_view)
+next_first s (g ∷ h ∷ gs) (suc i) d are lt = next_first (s + length (map row_view g.rows.items)) (h ∷ gs) i d are.1 (omega (arith, lt))
 
--- the places of the first rows are those of the rows
-first_rows : (groups : List SwitchGroup) (g : SwitchGroup) (i n : ℕ) (d : SwitchRow) → slice_get groups i ≡ Some g → n ≤ length g.rows
-    → map (row_at groups) (places_up_to i n) ≡ some_rows g (take n g.rows)
-first_rows groups g i zero d at le = refl
-first_rows groups g i (suc n) d at le =
-    let lt : n < length g.rows = omega arith in
-    let fewer : n ≤ length g.rows = omega arith in
-    let front : map (row_at groups) (places_up_to i n) ≡ some_rows g (take n g.rows) = first_rows groups g i n d at fewer in
-    let here : row_at groups (place i n) ≡ Some (in_group g (get_or g.rows n d)) = found_row groups g i n (get_or g.rows n d) at (slice_get-get_or g.rows n d lt) in
-    let more : take (n + 1) g.rows ≡ take (suc n) g.rows = ap (λ m. take m g.rows) (add-one n) in
-    map-append (row_at groups) (places_up_to i n) (place i n ∷ [])
-    ∙ ap (λ xs. xs ++ row_at groups (place i n) ∷ []) front
-    ∙ ap (λ r. some_rows g (take n g.rows) ++ r ∷ []) here
-    ∙ sym (some_rows-append g (take n g.rows) (get_or g.rows n d ∷ []))
-    ∙ ap (some_rows g) (sym (take_more g.rows n d lt) ∙ more)
+-- a group begins with the row or before it
+pub some_begun : (gs : List Group) (row n : ℕ) → AreNumbered 0 (map group_view gs) → row < length (rows_of (map group_view gs)) → IsBorder gs row n → 0 < n
+some_begun [] row n are within border = absurd (omega (arith, within))
+some_begun (g ∷ gs) row n are within border = by n refl
+  where
+    by : (m : ℕ) → n ≡ m → 0 < n
+    by zero is = (let behind : row < g.first.0 = subst (λ k. row < (get_or (g ∷ gs) k g).first.0) is (border.behind g (omega (arith, is))) in absurd (omega (arith, behind, are.0)))
+    by (suc m) is = omega (arith, is)
 
-pub group_at : (gs : List Group) (i : ℕ) (d : Group) → i < length gs → slice_get (map group_view gs) i ≡ Some (group_view (get_or gs i d))
-group_at [] i d lt = absurd (omega arith)
-group_at (g ∷ gs) zero d lt = refl
-group_at (g ∷ gs) (suc i) d lt = group_at gs i d (omega arith)
+-- the row is one of the last group that begins with it or before it
+pub row_there : (gs : List Group) (row n : ℕ) (d : Group) → AreNumbered 0 (map group_view gs) → row < length (rows_of (map group_view gs)) → IsBorder gs row n → 0 < n
+    → (n - 1 < length gs) × ((get_or gs (n - 1) d).first.0 ≤ row) × (row < (get_or gs (n - 1) d).first.0 + length (get_or gs (n - 1) d).rows.items)
+row_there gs row zero d are within border some = absurd (omega (arith, some))
+row_there gs row (suc k) d are within border some =
+    let at : suc k - 1 ≡ k = omega arith in
+    let le = border.within in
+    subst (λ i. (i < length gs) × ((get_or gs i d).first.0 ≤ row) × (row < (get_or gs i d).first.0 + length (get_or gs i d).rows.items)) (sym at) (omega (arith, le), border.before k d (omega arith), by (length gs - suc k) refl)
+  where
+    by : (m : ℕ) → length gs - suc k ≡ m → row < (get_or gs k d).first.0 + length (get_or gs k d).rows.items
+    by zero none = (let le = border.within in let last : k + 1 ≡ length gs = omega (arith, none, le) in omega (arith, within, ends_at 0 gs k d are last))
+    by (suc m) some = (let lt : suc k < length gs = omega (arith, some) in omega (arith, border.behind d lt, next_first 0 gs k d are lt))
 
-abbrev no_row : SwitchRow
-no_row = record { values = []; source = 0; line = 0 }
+-- ---- the row itself
+at_front : {X : Type 0} (xs ys : List X) (i : ℕ) → i < length xs → slice_get (xs ++ ys) i ≡ slice_get xs i
+at_front [] ys i lt = absurd (omega (arith, lt))
+at_front (x ∷ xs) ys zero lt = refl
+at_front (x ∷ xs) ys (suc i) lt = at_front xs ys i (omega (arith, lt))
 
--- the places of one group more
-pub next_group : (gs : List Group) (places : List RowPlace) (i : ℕ) (d : Group) → i < length gs
-    → map (row_at (map group_view gs)) places ++ map Some (rows_of (map group_view (drop i gs))) ≡ map Some (rows_of (map group_view gs))
-    → map (row_at (map group_view gs)) (places ++ places_up_to i (length (get_or gs i d).rows.items)) ++ map Some (rows_of (map group_view (drop (i + 1) gs))) ≡ map Some (rows_of (map group_view gs))
-next_group gs places i d lt so_far =
-    let groups = map group_view gs in
-    let g = group_view (get_or gs i d) in
-    let n = length (get_or gs i d).rows.items in
-    let rest = rows_of (map group_view (drop (i + 1) gs)) in
-    let long : length g.rows ≡ n = length-map (get_or gs i d).rows.items row_view in
-    let within : n ≤ length g.rows = omega arith in
-    let behind : length g.rows ≤ n = omega arith in
-    let here : map (row_at groups) (places_up_to i n) ≡ some_rows g g.rows =
-    first_rows groups g i n no_row (group_at gs i d lt) within ∙ ap (some_rows g) (take_all n g.rows behind) in
-    let split : map Some (rows_of (map group_view (drop i gs))) ≡ some_rows g g.rows ++ map Some rest =
-    ap (λ xs. map Some (rows_of (map group_view xs))) (drop_more gs i d lt) ∙ map-append Some (map (in_group g) g.rows) rest in
-    ap (λ xs. xs ++ map Some rest) (map-append (row_at groups) places (places_up_to i n) ∙ ap (λ xs. map (row_at groups) places ++ xs) here)
-    ∙ append_assoc (map (row_at groups) places) (some_rows g g.rows) (map Some rest)
-    ∙ ap (λ xs. map (row_at groups) places ++ xs) (sym split)
-    ∙ so_far
+at_back : {X : Type 0} (xs ys : List X) (i n : ℕ) → n ≡ length xs + i → slice_get (xs ++ ys) n ≡ slice_get ys i
+at_back [] ys i n is = let same : n ≡ i = omega (arith, is) in ap (slice_get ys) same
+at_back (x ∷ xs) ys i zero is = absurd (omega (arith, is))
+at_back (x ∷ xs) ys i (suc n) is = at_back xs ys i n (omega (arith, is))
 
--- the places of all groups
-pub all_groups : (gs : List Group) (places : List RowPlace) (i : ℕ) → length gs ≤ i
-    → map (row_at (map group_view gs)) places ++ map Some (rows_of (map group_view (drop i gs))) ≡ map Some (rows_of (map group_view gs))
-    → map (row_at (map group_view gs)) places ≡ map Some (rows_of (map group_view gs))
-all_groups gs places i le so_far =
-    let found = map (row_at (map group_view gs)) places in
-    sym (append-nil found) ∙ ap (λ xs. found ++ xs) (sym (at_drop_all (λ xs. map Some (rows_of (map group_view xs))) gs i le)) ∙ so_far
+row_in : (g : SwitchGroup) (rows : List Row) (k : ℕ) (d : Row) → k < length rows → slice_get (map (in_group g) (map row_view rows)) k ≡ Some (g, row_view (get_or rows k d))
+row_in g [] k d lt = absurd (omega (arith, lt))
+row_in g (r ∷ rows) zero d lt = refl
+row_in g (r ∷ rows) (suc k) d lt = row_in g rows k d (omega (arith, lt))
 
--- the place of one row more of a group
-pub next_row : (start places more : List RowPlace) (group row : ℕ) → places ≡ start ++ places_up_to group row → more ≡ places ++ place group row ∷ []
-    → more ≡ start ++ places_up_to group (row + 1)
-next_row start places more group row so_far pushed =
-    pushed
-    ∙ ap (λ xs. xs ++ place group row ∷ []) so_far
-    ∙ append_assoc start (places_up_to group row) (place group row ∷ [])
-    ∙ ap (λ n. start ++ places_up_to group n) (sym (add-one row))
+first_from : (s : ℕ) (gs : List Group) (i : ℕ) (d : Group) → AreNumbered s (map group_view gs) → i < length gs → s ≤ (get_or gs i d).first.0
+first_from s [] i d are lt = absurd (omega (arith, lt))
+first_from s (g ∷ gs) zero d are lt = omega (arith, are.0)
+first_from s (g ∷ gs) (suc i) d are lt = omega (arith, first_from (s + length (map row_view g.rows.items)) gs i d are.1 (omega (arith, lt)))
+
+-- the row of this number from that of the first row on
+found : (s : ℕ) (gs : List Group) (i k : ℕ) (d : Group) (e : Row) → AreNumbered s (map group_view gs) → i < length gs → k < length (get_or gs i d).rows.items
+    → slice_get (rows_of (map group_view gs)) ((get_or gs i d).first.0 + k - s) ≡ Some (group_view (get_or gs i d), row_view (get_or (get_or gs i d).rows.items k e))
+found s [] i k d e are lt within = absurd (omega (arith, lt))
+found s (g ∷ gs) zero k d e are lt within =
+    let number : g.first.0 + k - s ≡ k = omega (arith, are.0) in
+    let long = length-map (map row_view g.rows.items) (in_group (group_view g)) in
+    let count = length-map g.rows.items row_view in
+    ap (slice_get (rows_of (map group_view (g ∷ gs)))) number
+    ∙ at_front (map (in_group (group_view g)) (map row_view g.rows.items)) (rows_of (map group_view gs)) k (omega (arith, within, long, count))
+    ∙ row_in (group_view g) g.rows.items k e within
+found s (g ∷ gs) (suc i) k d e are lt within =
+    let t : ℕ = s + length (map row_view g.rows.items) in
+    let from : t ≤ (get_or gs i d).first.0 = first_from t gs i d are.1 (omega (arith, lt)) in
+    let long : length (map (in_group (group_view g)) (map row_view g.rows.items)) ≡ length (map row_view g.rows.items) = length-map (map row_view g.rows.items) (in_group (group_view g)) in
+    let number : (get_or gs i d).first.0 + k - s ≡ length (map (in_group (group_view g)) (map row_view g.rows.items)) + ((get_or gs i d).first.0 + k - t) = omega (arith, from, long) in
+    at_back (map (in_group (group_view g)) (map row_view g.rows.items)) (rows_of (map group_view gs)) ((get_or gs i d).first.0 + k - t) ((get_or gs i d).first.0 + k - s) number
+    ∙ found t gs i k d e are.1 (omega (arith, lt)) within
+
+-- the same by the group and row that stand there
+pub row_found : (gs : List Group) (i k row : ℕ) (g : Group) (r : Row) → AreNumbered 0 (map group_view gs) → i < length gs → g ≡ get_or gs i g → k < length g.rows.items → r ≡ get_or g.rows.items k r → g.first.0 + k ≡ row
+    → slice_get (rows_of (map group_view gs)) row ≡ Some (group_view g, row_view r)
+row_found gs i k row g r are lt at within there number =
+    let place : (get_or gs i g).first.0 + k - 0 ≡ row = ap (λ (x : Group). x.first.0 + k - 0) (sym at) ∙ omega (arith, number) in
+    let in_rows : k < length (get_or gs i g).rows.items = subst (λ (x : Group). k < length x.rows.items) at within in
+    ap (slice_get (rows_of (map group_view gs))) (sym place)
+    ∙ found 0 gs i k g r are lt in_rows
+    ∙ ap (λ (x : Group). Some (group_view x, row_view (get_or x.rows.items k r))) (sym at)
+    ∙ ap (λ x. Some (group_view g, row_view x)) (sym there)
+
+-- the rows of the last group end the rows
+pub ends_by : (gs : List Group) (g : Group) → AreNumbered 0 (map group_view gs) → (length gs ≡ 0 → ⊥) → g ≡ get_or gs (length gs - 1) g → g.first.0 + length g.rows.items ≡ length (rows_of (map group_view gs))
+ends_by gs g are some is =
+    let last : length gs - 1 + 1 ≡ length gs = by (length gs) some in
+    ap (λ (x : Group). x.first.0 + length x.rows.items) is ∙ ends_at 0 gs (length gs - 1) g are last ∙ (let all : 0 + length (rows_of (map group_view gs)) ≡ length (rows_of (map group_view gs)) = omega arith in all)
+  where
+    by : (n : ℕ) → (n ≡ 0 → ⊥) → n - 1 + 1 ≡ n
+    by zero some = absurd (some refl)
+    by (suc n) some = omega arith

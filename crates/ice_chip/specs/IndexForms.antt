@@ -1,9 +1,9 @@
 -- The maps and lists of a chip, each as what the rows of a database make of it.
-use Rattle.std.specs.Prelude.{◌≡◌, [], Some, map, filter, replicate, nat_eq}
+use Rattle.std.specs.Prelude.{◌≡◌, [], map, filter, replicate, nat_eq}
 use Rattle.ice_chip.specs.Database.{Parts, same_tile}
 use Rattle.ice_chip.specs.Lookups.{placed_names, placed_wire, global_tile, fed_pad, buffer_counts, served_tile}
-use Rattle.ice_chip.specs.Listings.{tile_of, rows_of}
-use Rattle.ice_chip.specs.Indices.{firsts, numbered, lists_of, listed, row_at, enables_of}
+use Rattle.ice_chip.specs.Listings.{tile_of}
+use Rattle.ice_chip.specs.Indices.{firsts, numbered, lists_of, listed, enables_of}
 use Rattle.ice_chip.specs.NameIndex.{numbered_of, no_names}
 use Rattle.ice_chip.specs.NamePlaces.{by_text, by_kind, no_places, function_places, package_places}
 use Rattle.ice_chip.specs.declared.indices.WireIndex.{WireIndex}
@@ -29,8 +29,7 @@ pub record IsServerIndex (parts : Parts) (index : ServerIndex) : Type 0 where
   pub enables : index.enables.entries ≡ enables_of parts
   pub buffers : index.buffers.entries ≡ firsts same_tile [] (map served_tile (filter (buffer_counts parts.tiles parts.functions) parts.colbuf))
 
--- where the rows stand, and the first functions and packages of each name
+-- where the first functions and packages of each name stand
 pub record IsPlaceIndex (parts : Parts) (index : PlaceIndex) : Type 0 where
-  pub rows : map (row_at parts.groups) index.rows.items ≡ map Some (rows_of parts.groups)
   pub functions : by_kind index.functions ≡ function_places no_places 0 parts.functions
   pub packages : by_text index.packages.entries ≡ package_places [] 0 parts.packages

@@ -1,17 +1,15 @@
 -- The maps and lists by which a chip answers at once, as what its rows make of them.
-use Rattle.std.specs.Prelude.{ℕ, zero, suc, ◌==◌, ◌&&◌, Bool, Option, None, Some, List, [], ◌∷◌, ◌++◌, map, filter, slice_get, slice_set, slice_index_or, option_map, Vec}
+use Rattle.std.specs.Prelude.{◌≡◌, ℕ, ◌+◌, ◌<◌, ◌≤◌, ◌==◌, ◌&&◌, Bool, Option, None, Some, List, [], ◌∷◌, ◌++◌, map, filter, length, slice_set, slice_index_or, Vec}
 use Rattle.std.specs.Map.{lookup}
-use Rattle.std.specs.Option.{option_and_then}
 use Rattle.std.specs.declared.alloc.Global.{Global}
 use Rattle.ice_base.specs.Lists.{with_name, number_of_name}
-use Rattle.ice_chip.specs.Database.{Parts, WireName, SwitchGroup, SwitchRow, same_tile, same_pad}
+use Rattle.ice_chip.specs.Database.{Parts, WireName, same_tile, same_pad}
 use Rattle.ice_chip.specs.WholeFaults.{placed}
 use Rattle.ice_chip.specs.Lookups.{enable_counts}
-use Rattle.ice_chip.specs.Listings.{in_group}
 use Rattle.ice_chip.specs.declared.rows.Pad.{Pad}
 use Rattle.ice_chip.specs.declared.placed.PlacedName.{PlacedName}
 use Rattle.ice_chip.specs.declared.index.NumberedName.{NumberedName}
-use Rattle.ice_chip.specs.declared.index.RowPlace.{RowPlace}
+use Rattle.ice_chip.specs.declared.sections.Group.{Group}
 
 -- ---- of the rows with one key the first counts
 abbrev pub put_first : {K V : Type 0} → List (K × V) → K × V → Option V → List (K × V)
@@ -58,14 +56,9 @@ abbrev pub listed : List (List PlacedName) → List WireName → List (List Plac
 listed lists [] = lists
 listed lists (n ∷ ns) = listed (with_listed lists n) ns
 
--- ---- the group of each row, and its number there
-abbrev pub row_in : SwitchGroup → ℕ → Option (SwitchGroup × SwitchRow)
-row_in g row = option_map (in_group g) (slice_get g.rows row)
-
-abbrev pub row_at : List SwitchGroup → RowPlace → Option (SwitchGroup × SwitchRow)
-row_at groups place = option_and_then (λ g. row_in g place.row) (slice_get groups place.group)
-
--- the places of the first rows of a group
-abbrev pub places_up_to : ℕ → ℕ → List RowPlace
-places_up_to group zero = []
-places_up_to group (suc n) = places_up_to group n ++ record { group = group; row = n } ∷ []
+-- ---- groups whose rows are numbered on
+-- so many groups begin with this row or one before it, and no other does
+pub record IsBorder (groups : List Group) (row n : ℕ) : Type 0 where
+  pub within : n ≤ length groups
+  pub before : (k : ℕ) (d : Group) → k + 1 ≡ n → (slice_index_or groups k d).first.0 ≤ row
+  pub behind : (d : Group) → n < length groups → row < (slice_index_or groups n d).first.0

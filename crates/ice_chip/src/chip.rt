@@ -1,19 +1,19 @@
 //! A chip: the rows of a database in which no fault is, each found at once.
-ghost use Rattle.std.specs.Prelude.{◌≡◌, ◌<◌, None, Some, IsSome, IfOk, map, length, slice_get, option_map};
+ghost use Rattle.std.specs.Prelude.{◌≡◌, ◌<◌, None, Some, IfOk, map, length, slice_get, option_map};
 ghost use Rattle.std.specs.Map.{lookup};
 ghost use Rattle.ice_chip.specs.IsRead.{IsRead, IsChip};
 ghost use Rattle.ice_chip.specs.Whole.{whole_fault};
-ghost use Rattle.ice_chip.specs.Indices.{row_at, enables_of, numbered};
+ghost use Rattle.ice_chip.specs.Indices.{enables_of, numbered};
 ghost use Rattle.ice_chip.specs.Database.{same_pad};
 ghost use Rattle.ice_chip.specs.Lookups.{kind_at, names_of, wire_named, package_of, global_of, gbufpin_of, padin_of, ieren_of, colbuf_of, function_of, placed_names, placed_wire};
 ghost use Rattle.ice_chip.specs.Listings.{tile_of, rows_of};
 ghost use Rattle.ice_chip.specs.NameIndex.{numbered_of, no_names};
 ghost use Rattle.ice_chip.specs.Views.{function_view, row_view, group_view, package_view, parts_view};
 
-use crate::index::RowPlace;
 use crate::indices::{PlaceIndex, ServerIndex, WireIndex};
 use crate::name_places::place_of;
 use crate::names::NameIndex;
+use crate::places::{row_among, rows_count};
 use crate::{
     ChipParts, Function, Group, NamedParts, Package, Pad, PlacedName, Row, Tile, TileKind,
 };
@@ -31,7 +31,7 @@ pub struct Chip {
     wires: WireIndex,
     // What serves each global, pad and tile.
     servers: ServerIndex,
-    // Where rows, functions and packages stand.
+    // Where functions and packages stand.
     places: PlaceIndex,
 }
 
@@ -121,17 +121,16 @@ impl Chip {
     pub fn rows(&self) -> u32
         ensures { result ≡ length (rows_of self.now.groups) }
     {
-        self.places.rows.len() as u32
+        rows_count(&self.parts.groups)
     }
 
     /// A switch row with its group. The number is in range.
-    #[tactic(auto, using(crate::proofs::Readers::place_within, crate::proofs::Readers::place_found))]
     pub fn row(&self, row: RowNo) -> (&Group, &Row)
         requires { row.0 < length (rows_of self.now.groups) }
         ensures { slice_get (rows_of self.now.groups) row.0
             ≡ Some (group_view result.0.now, row_view result.1.now) }
     {
-        row_in(&self.parts.groups, self.places.rows[row.0 as usize])
+        row_among(&self.parts.groups, row.0)
     }
 
     /// The names of a wire at places with a tile, in the order of the text. The wire is one of the chip.
@@ -223,15 +222,4 @@ impl Chip {
     {
         self.servers.globals.extras.get(&n).copied()
     }
-}
-
-// The row at its place, with its group.
-#[tactic(auto, using(crate::proofs::Readers::group_within, crate::proofs::Readers::row_within, crate::proofs::Readers::row_is))]
-fn row_in(groups: &[Group], place: RowPlace) -> (&Group, &Row)
-    requires { IsSome (row_at (map group_view groups.now) place) }
-    ensures { row_at (map group_view groups.now) place
-        ≡ Some (group_view result.0.now, row_view result.1.now) }
-{
-    let group = &groups[place.group];
-    (group, &group.rows[place.row])
 }

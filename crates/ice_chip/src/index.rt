@@ -22,25 +22,16 @@ pub struct NumberedName {
     pub number: usize,
 }
 
-/// Where a switch row stands.
-#[derive(Clone, Copy)]
-pub struct RowPlace {
-    /// The number of its group.
-    pub group: usize,
-    /// Its number among the rows of the group.
-    pub row: usize,
-}
-
-/// Notes a value of a key that has none yet.
-pub fn note_first<K: Hash + Eq + Drop, V: Drop>(
+/// Notes a value of a key that has none yet. Most keys have none, so the value is put in at once, and one that was there put back.
+pub fn note_first<K: Hash + Eq + Copy + Drop, V: Drop>(
     map: &mut IndexMap<K, V>,
     key: K,
     value: V,
 ) -> Result<(), NoMemory>
     ensures { OnOk result (map.new.entries ≡ with_first K.eq map.old.entries (key, value)) }
 {
-    if map.get(&key).is_none() {
-        map.insert(key, value)?;
+    if let Some(first) = map.insert(key, value)? {
+        map.insert(key, first)?;
     }
     Ok(())
 }

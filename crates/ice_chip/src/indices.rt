@@ -7,12 +7,11 @@ ghost use Rattle.ice_chip.specs.IndexForms.{IsWireIndex, IsGlobalIndex, IsServer
 ghost use Rattle.ice_chip.specs.Views.{parts_view};
 
 use crate::index::{
-    RowPlace, column_buffers, feeding_tiles, global_extras, global_pads, input_enables, tiles,
+    column_buffers, feeding_tiles, global_extras, global_pads, input_enables, tiles,
 };
 use crate::lists::names_by_wire;
 use crate::name_places::{FunctionPlaces, places_of_packages};
 use crate::names::NameIndex;
-use crate::places::row_places;
 use crate::{ChipParts, Pad, PlacedName, Tile};
 use ice_base::{NoMemory, TileAt, both};
 use indexmap::IndexMap;
@@ -51,11 +50,9 @@ pub struct ServerIndex {
     pub buffers: IndexMap<TileAt, TileAt>,
 }
 
-/// Where rows, functions and packages stand.
+/// Where functions and packages stand.
 #[derive(Drop)]
 pub struct PlaceIndex {
-    /// Where each switch row stands.
-    pub rows: Vec<RowPlace>,
     /// Where the first function of each kind and name stands.
     pub functions: FunctionPlaces,
     /// Where the first package of each name stands.
@@ -110,15 +107,13 @@ impl ServerIndex {
 }
 
 impl PlaceIndex {
-    /// Where these rows, functions and packages stand.
+    /// Where the functions and packages of these rows stand.
     pub fn new(alloc: Global, parts: &ChipParts) -> Result<PlaceIndex, NoMemory>
         ensures { IfOk result (IsPlaceIndex (parts_view parts.now)) }
     {
         let functions = FunctionPlaces::new(alloc, &parts.functions);
-        let rows = both(row_places(alloc, &parts.groups), functions);
-        let ((rows, functions), packages) = both(rows, places_of_packages(alloc, &parts.packages))?;
+        let (functions, packages) = both(functions, places_of_packages(alloc, &parts.packages))?;
         Ok(PlaceIndex {
-            rows,
             functions,
             packages,
         })

@@ -3,3 +3,4 @@ mod SharedPinSteps
 mod DerivedEquality
 mod SharedLaws
 mod NoPins
+mod MarkLaws

@@ -1,10 +1,10 @@
 -- Names at places, looked up where they lie in memory.
-use Rattle.std.proofs.Common.{◌≡◌, ◌==◌, Bool, true, false, Some, None, Ok, Err, is_some, cond, List, [], ◌∷◌, ◌++◌, refl, sym, ap, ◌∙◌, true≢false, if◌then◌else◌}
+use Rattle.std.proofs.Common.{◌≡◌, ◌==◌, Bool, true, false, Some, None, Ok, Err, cond, List, [], ◌∷◌, ◌++◌, refl, sym, ap, ◌∙◌, if◌then◌else◌}
 use Rattle.std.specs.Map.{lookup}
-use Rattle.std.proofs.lemmas.Option.{same_Some}
 use Rattle.indexmap.specs.IndexMap.{insert_entry}
 use Rattle.ice_chip_build.specs.PlacedTexts.{placed_text, by_placed}
 use Rattle.ice_chip.specs.WholeFaults.{same_placed, with_placed, clash_or}
+use Rattle.ice_chip.proofs.Entries.{restored}
 use Rattle.ice_chip_build.specs.declared.named.PlacedText.{PlacedText}
 use Rattle.ice_chip.specs.declared.placed.PlacedName.{PlacedName}
 use Rattle.ice_chip.specs.declared.name_lines.WireLine.{WireLine}
@@ -28,25 +28,6 @@ joins placed known entries now none put =
     ap (with_placed (by_placed entries) (placed_text placed) known) (found placed entries ∙ none)
     ∙ ap (λ es. Ok es) (sym (ap by_placed put ∙ by_placed_last entries (placed, known)))
 
--- ---- a wire that is put in over another one, and then that one again
-put_here : (e : PlacedText × WireLine) (es : List (PlacedText × WireLine)) (k : PlacedText) (v : WireLine) → same_text k e.0 ≡ true → insert_entry same_text (e ∷ es) k v ≡ (e.0, v) ∷ es
-put_here e es k v is = rw is refl
-
-put_past : (e : PlacedText × WireLine) (es : List (PlacedText × WireLine)) (k : PlacedText) (v : WireLine) → same_text k e.0 ≡ false → insert_entry same_text (e ∷ es) k v ≡ e ∷ insert_entry same_text es k v
-put_past e es k v is = rw is refl
-
-restored_by : (e : PlacedText × WireLine) (es : List (PlacedText × WireLine)) (k : PlacedText) (v old : WireLine) (here : Bool) → same_text k e.0 ≡ here
-    → (lookup (same_text k) es ≡ Some old → insert_entry same_text (insert_entry same_text es k v) k old ≡ es) → cond here (Some e.1) (lookup (same_text k) es) ≡ Some old
-    → insert_entry same_text (insert_entry same_text (e ∷ es) k v) k old ≡ e ∷ es
-restored_by e es k v old true is rest met =
-    ap (λ xs. insert_entry same_text xs k old) (put_here e es k v is) ∙ put_here (e.0, v) es k old is ∙ ap (λ x. (e.0, x) ∷ es) (sym (same_Some e.1 old met))
-restored_by e es k v old false is rest met =
-    ap (λ xs. insert_entry same_text xs k old) (put_past e es k v is) ∙ put_past e (insert_entry same_text es k v) k old is ∙ ap (λ others. e ∷ others) (rest met)
-
-restored : (entries : List (PlacedText × WireLine)) (k : PlacedText) (v old : WireLine) → lookup (same_text k) entries ≡ Some old → insert_entry same_text (insert_entry same_text entries k v) k old ≡ entries
-restored [] k v old met = absurd (true≢false (sym (ap is_some met)))
-restored (e ∷ es) k v old met = restored_by e es k v old (same_text k e.0) refl (restored es k v old) met
-
 by_test : (seen : List (PlacedName × WireLine)) (known first : WireLine) (same : Bool) → (if same then Ok seen else Err (known.line, first.line)) ≡ clash_or (if same then None else Some (known.line, first.line)) seen
 by_test seen known first true = refl
 by_test seen known first false = refl
@@ -57,7 +38,7 @@ pub stays : (placed : PlacedText) (known first : WireLine) (entries over now : L
     → with_placed (by_placed entries) (placed_text placed) known (lookup (same_placed (placed_text placed)) (by_placed entries))
     ≡ clash_or (if first.wire == known.wire then None else Some (known.line, first.line)) (by_placed now)
 stays placed known first entries over now met put back =
-    let same : now ≡ entries = back ∙ ap (λ es. insert_entry same_text es placed first) put ∙ restored entries placed known first met in
+    let same : now ≡ entries = back ∙ ap (λ es. insert_entry same_text es placed first) put ∙ restored same_text entries placed known first met in
     ap (with_placed (by_placed entries) (placed_text placed) known) (found placed entries ∙ met)
     ∙ by_test (by_placed entries) known first (first.wire == known.wire)
     ∙ ap (λ es. clash_or (if first.wire == known.wire then None else Some (known.line, first.line)) (by_placed es)) (sym same)

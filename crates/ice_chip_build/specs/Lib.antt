@@ -1,3 +1,4 @@
 pub mod BitsUsed
+pub mod Marks
 pub mod UsedViews
 pub mod PlacedTexts

@@ -6,6 +6,7 @@ mod faults;
 mod groups;
 mod lacking;
 mod least;
+mod marks;
 mod named;
 mod pins;
 mod shared;

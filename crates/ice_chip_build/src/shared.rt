@@ -3,11 +3,13 @@ ghost use Rattle.std.specs.Prelude.{◌≡◌, None, map, true, false, IfOk, OnO
 ghost use Rattle.std.specs.Map.{lookup};
 ghost use Rattle.ice_chip_build.specs.BitsUsed.{none_used, with_line, with_clash, with_use, with_uses, with_functions, with_others, groups_shared};
 ghost use Rattle.ice_chip.specs.SharedFunction.{same_bit, bit_use, function_uses, group_uses, two_lines, precedes, first_of, shared_function};
+ghost use Rattle.ice_chip_build.specs.Marks.{HaveMarks};
 ghost use Rattle.ice_chip_build.specs.UsedViews.{used_view};
 ghost use Rattle.ice_chip.specs.Views.{function_view, group_view, parts_view};
 
 use crate::groups::{placed_tile, tile_again};
 use crate::least::least_of;
+use crate::marks::{marks_of, may_be_noted};
 use ice_base::{BitAt, NoMemory, TileAt};
 use ice_chip::{
     BitUse, ChipParts, Function, Group, KindBit, TileKind, TileLine, is_foreign, is_read,
@@ -156,46 +158,55 @@ impl UsedBits {
 
 // The first two lines of uses that clash, with those of another use than one of a read function.
 fn with_other(
+    marks: &[bool],
     read: &IndexMap<KindBit, u32>,
     known: Option<(u32, u32)>,
     place: KindBit,
     line: u32,
 ) -> Option<(u32, u32)>
+    requires { HaveMarks marks.now read.now.entries }
     ensures { result ≡ with_clash known line (lookup (same_bit place) read.now.entries) }
 {
+    if !may_be_noted(marks, place) {
+        return known;
+    }
     with_clash(known, line, read.get(&place).copied())
 }
 
 // The first two lines of uses that clash, with those of other uses of these bits.
 fn with_others(
+    marks: &[bool],
     read: &IndexMap<KindBit, u32>,
     known: Option<(u32, u32)>,
     kind: TileKind,
     line: u32,
     bits: &[BitAt],
 ) -> Option<(u32, u32)>
+    requires { HaveMarks marks.now read.now.entries }
     ensures { result ≡ with_others read.now.entries known (map (bit_use kind false line) bits.now) }
 {
     let mut first = known;
     for bit in bits {
         let place = KindBit { kind, bit: *bit };
-        first = with_other(read, first, place, line);
+        first = with_other(marks, read, first, place, line);
     }
     first
 }
 
 // The first two lines of uses that clash, with those of a group, where a tile stands at its place.
 fn with_group(
+    marks: &[bool],
     read: &IndexMap<KindBit, u32>,
     known: Option<(u32, u32)>,
     tile: Option<TileLine>,
     group: &Group,
 ) -> Option<(u32, u32)>
+    requires { HaveMarks marks.now read.now.entries }
     ensures { result ≡ with_others read.now.entries known (group_uses tile (group_view group.now)) }
 {
     match tile {
         None => known,
-        Some(tile) => with_others(read, known, tile.kind, group.line, &group.bits),
+        Some(tile) => with_others(marks, read, known, tile.kind, group.line, &group.bits),
     }
 }
 
@@ -213,9 +224,11 @@ fn note_functions(used: &mut UsedBits, functions: &[Function]) -> Result<(), NoM
 // The first two lines of uses that clash, with those of all groups. No read function is among these.
 fn with_groups(
     parts: &ChipParts,
+    marks: &[bool],
     read: &IndexMap<KindBit, u32>,
     known: Option<(u32, u32)>,
 ) -> Option<(u32, u32)>
+    requires { HaveMarks marks.now read.now.entries }
     ensures { result ≡ groups_shared (parts_view parts.now).tiles read.now.entries known
         (parts_view parts.now).groups }
 {
@@ -223,7 +236,7 @@ fn with_groups(
     let mut last = placed_tile(parts, TileAt { x: 0, y: 0 });
     for group in &parts.groups {
         last = tile_again(parts, last, group.tile);
-        first = with_group(read, first, last.1, group);
+        first = with_group(marks, read, first, last.1, group);
     }
     first
 }
@@ -238,7 +251,8 @@ pub fn shared_function(alloc: Global, parts: &ChipParts) -> Result<Option<(u32, 
     let mut used = UsedBits::new(alloc);
     let noted = note_functions(&mut used, &parts.functions);
     let used = noted.and(Ok(used))?;
-    let lines = with_groups(parts, &used.read, used.shared);
+    let marks = marks_of(alloc, &used.read)?;
+    let lines = with_groups(parts, &marks, &used.read, used.shared);
     drop(used);
     Ok(lines)
 }

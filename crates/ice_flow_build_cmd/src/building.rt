@@ -51,6 +51,7 @@ use ice_pads::PinFault;
 use ice_pcf::{Pcf, read_pcf};
 use ice_ram_read::read_closed_netlist;
 use std::alloc::Global;
+use std::mem;
 use std::thread::Threads;
 
 // A sound netlist that the second text behind the chip's says, and that no RAM closes, can be prepared.
@@ -217,7 +218,9 @@ fn build_texts<G: Gate + Sync, R: Threads + Sync>(
     match read_task(alloc, reader, texts) {
         Ok(task) => {
             let made = build_task(rt, alloc, gate, request, &task);
-            drop(task);
+            // Nothing but the writing of texts follows, and then the process ends: the chip's many pieces of memory aren't given back
+            // one by one.
+            mem::forget(task);
             made
         }
         Err(cause) => Err(without_report(cause)),

@@ -7,4 +7,4 @@ returns-then-has_closed_name c = closed_use c.args.chip.now c.args.wire.0 (sym c
 
 pub returns : goal.returns
 returns c =
-    open_use c.args.chip.now c.args.wire.0 c.has_input_name.result c.has_output_name.result (sym c.has_closed_name.ensures ∙ c.if-has_closed_name.false) c.has_input_name.ensures c.has_output_name.ensures
+    open_use c.args.chip.now c.args.wire.0 c.has_pin_names-input.result.0 c.has_pin_names-input.result.1 (sym c.has_closed_name.ensures ∙ c.if-has_closed_name.false) c.has_pin_names-input.ensures.input c.has_pin_names-input.ensures.output

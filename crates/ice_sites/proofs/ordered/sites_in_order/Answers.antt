@@ -7,4 +7,4 @@ pub loop-x-init : goal.loop-x-init
 loop-x-init c = c.new-sites.ensures.items ∙ sym (no_column (is_site c.args.index.now.chip.now))
 
 pub loop-x-preserved : goal.loop-x-preserved
-loop-x-preserved c = next_column (is_site c.args.index.now.chip.now) c.loop-x.x c.loop-x.sites.items c.add_column.new.sites.items c.loop-x.invariant c.in_ok-add_column.ensures
+loop-x-preserved c = next_column (is_site c.args.index.now.chip.now) c.loop-x.x c.loop-x.sites.items c.add_sites.new.sites.items c.loop-x.invariant c.in_ok-add_sites.ensures
