@@ -32,7 +32,9 @@ find_program() {
 }
 
 # Has Yosys write the netlist of a source with the top module `top`, as docs/ERRORS.md advises: write_netlist SOURCE BLIF [JSON [COMMANDS]];
-# JSON is the file for nextpnr-ice40, or empty, and COMMANDS are further ones of Yosys.
+# JSON is the file for nextpnr-ice40, or empty, and COMMANDS are further ones of Yosys. Memories become flip-flops, but block RAMs where `rams` is set.
 write_netlist() {
-    yosys -qq -p "read_verilog $1; synth_ice40 -nobram -top top ${3:+-json $3}; splitnets -ports; opt_clean -purge; write_blif -gates -attr -param $2${4:+; $4}"
+    local memories=-nobram
+    [ -z "${rams:-}" ] || memories=
+    yosys -qq -p "read_verilog $1; synth_ice40 $memories -top top ${3:+-json $3}; splitnets -ports; opt_clean -purge; write_blif -gates -attr -param $2${4:+; $4}"
 }

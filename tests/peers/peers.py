@@ -2,7 +2,9 @@
 
 levels CHIP PACKAGE PCF BLIF STEPS NET_LEVELS BITS_LEVELS  writes one step a line, for the netlist's ports and for the package's pads
 draw CHIP PACKAGE STEPS LEVELS  writes one step a line, with a level for each of the package's pads
-compare CHIP PACKAGE PCF BLIF NET_DRIVES BITS_DRIVES       ends with 0 where the pads show what the ports show, and every other is Off
+compare CHIP PACKAGE PCF BLIF NET_DRIVES BITS_DRIVES       ends with 0 where the pads show what the ports show, and every other is Off;
+                                                           an x of the ports stands for either level, and is rare
+teller BLIF NET_LEVELS OUT  writes a bench that says what the ports of the netlist's Verilog show, step by step
 bench BLIF STEPS CHIP_VERILOG OUT  writes a bench that runs the Verilog of bits, from which memories are taken out, beside the netlist's
 """
 import random
@@ -53,7 +55,8 @@ def levels(chip, package, pcf, blif, steps, net_out, bits_out):
     ports, inputs = ports_of(blif)
     places, count = places_of(chip, package, pcf, ports)
     source = random.Random(7)
-    clock = 0
+    # (a clock is 0 at first: to a model in Verilog a 1 would be an edge)
+    clock = 1
     with open(net_out, "w", encoding="ascii") as net, open(bits_out, "w", encoding="ascii") as bits:
         for _ in range(int(steps)):
             clock = 1 - clock
@@ -87,16 +90,39 @@ def compare(chip, package, pcf, blif, net_said, bits_said):
     bits = open(bits_said, encoding="ascii").read().split()
     if len(net) != len(bits) or not net:
         sys.exit(f"{len(net)} steps of the netlist and {len(bits)} of the bits")
+    unknown = 0
     for number, (ports_show, pads_show) in enumerate(zip(net, bits), 1):
         if len(pads_show) != count:
             sys.exit(f"step {number}: {len(pads_show)} pads, not {count}")
         for k, port in enumerate(ports):
-            if ports_show[k] != pads_show[places[k]]:
+            if ports_show[k] == "x" and pads_show[places[k]] in "01":
+                unknown += 1
+            elif ports_show[k] != pads_show[places[k]]:
                 sys.exit(f"step {number}: port {port} shows {ports_show[k]} and its pad {pads_show[places[k]]}")
         others = [p for p in range(count) if p not in places and pads_show[p] != "."]
         if others:
             sys.exit(f"step {number}: pads {others} are driven")
+    if unknown > len(net) * len(ports) // 50:
+        sys.exit(f"{unknown} levels are unknown")
     print(f"    {len(net)} steps, {len(ports)} ports, {len(set(net))} different lines: the same")
+
+
+def teller(blif, levels_file, out):
+    ports, inputs = ports_of(blif)
+    steps = len(open(levels_file, encoding="ascii").read().split())
+    last = len(ports) - 1
+    clocks = "".join("1" if port == "clk" else "0" for port in ports)
+    lines = ["module bench;", f"  reg [{last}:0] level = 0, steps [1:{steps}];", f"  localparam clocks = {len(ports)}'b{clocks};", "  integer step;"]
+    for k, port in enumerate(ports):
+        lines += [f"  wire port{k};"] + ([f"  assign port{k} = level[{last - k}];"] if port in inputs else [])
+    lines += ["  top the_top (" + ", ".join(f".\\{port} (port{k})" for k, port in enumerate(ports)) + ");", "  initial begin"]
+    # (a clock has its level of a step when all else has, and what is kept at its edge is shown from the next step on)
+    line = "".join("." if port in inputs else "%b" for port in ports)
+    shown = ", ".join(f"port{k}" for k, port in enumerate(ports) if port not in inputs)
+    lines += [f'    $readmemb("{levels_file}", steps);', f"    for (step = 1; step <= {steps}; step = step + 1) begin",
+              "      level = level & clocks | steps[step] & ~clocks;", f'      #1 $display("{line}", {shown});', "      level = steps[step];", "      #1;",
+              "    end", "  end", "endmodule"]
+    open(out, "w", encoding="ascii").write("\n".join(lines) + "\n")
 
 
 def without_memories(file):
@@ -141,4 +167,4 @@ def bench(blif, steps, verilog, out):
 
 
 if __name__ == "__main__":
-    {"levels": levels, "draw": draw, "compare": compare, "bench": bench}[sys.argv[1]](*sys.argv[2:])
+    {"levels": levels, "draw": draw, "compare": compare, "teller": teller, "bench": bench}[sys.argv[1]](*sys.argv[2:])

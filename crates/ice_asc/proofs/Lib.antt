@@ -1,7 +1,11 @@
+mod Known
+mod Filled
 mod Sound
 mod Joining
 mod TextLines
 mod WrittenLines
 mod WrittenReading
+mod WrittenWords
+mod WrittenContents
 mod RoundTrips
 mod FirstFaults

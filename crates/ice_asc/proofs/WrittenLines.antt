@@ -33,7 +33,7 @@ rows_are bits rows width is same =
 abbrev pub IsElsewhere : TileAt → List TileAt → Type 0
 IsElsewhere t ts = AllByRecursion (λ u. same_tile t u ≡ false) ts
 
-flipped : (t u : TileAt) → same_tile t u ≡ false → same_tile u t ≡ false
+pub flipped : (t u : TileAt) → same_tile t u ≡ false → same_tile u t ≡ false
 flipped t u h = search (rules, tests)
 
 at_middle : (t u : TileAt) (xs ys : List TileAt) → IsElsewhere u (xs ++ t ∷ ys) → same_tile u t ≡ false

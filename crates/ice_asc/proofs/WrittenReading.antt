@@ -2,6 +2,7 @@
 use Rattle.std.proofs.Common.{rules, tests, ◌≡◌, ℕ, ◌+◌, ◌<◌, ◌^◌, nat_lt, Bool, true, false, cond, if◌then◌else◌, Option, Some, option_map, Result, Ok, Err, List, [], ◌∷◌, ◌++◌, length, map, refl, sym, ap, ◌∙◌, subst, append_assoc, length-append, arith}
 use Rattle.std.specs.Prelude.{codes, decimal, eqb}
 use Rattle.std.specs.List.{AllByRecursion, list_any}
+use Rattle.std.specs.Map.{keys_of}
 use Rattle.std.specs.Option.{option_and_then}
 use Rattle.std.proofs.lemmas.List.{length-map}
 use Rattle.std.proofs.lemmas.Bool.{eq-eqb}
@@ -129,7 +130,7 @@ heading_words tile near =
     first_word (heading_of_kind tile.kind) 32 (spaced (decimal tile.at.x) (decimal tile.at.y)) (kind_word tile.kind) refl
     ∙ ap (λ ws. heading_of_kind tile.kind ∷ ws) (first_word (decimal tile.at.x) 32 (decimal tile.at.y) x refl ∙ ap (λ ws. decimal tile.at.x ∷ ws) (last_word (decimal tile.at.y) y))
 
-place_read : (at : TileAt) → IsNear at → tile_of_words (decimal at.x ∷ decimal at.y ∷ []) ≡ Some at
+pub place_read : (at : TileAt) → IsNear at → tile_of_words (decimal at.x ∷ decimal at.y ∷ []) ≡ Some at
 place_read at near =
     let x : at.x < 2 ^ 16 = near.x in
     let y : at.y < 2 ^ 16 = near.y in
@@ -151,9 +152,9 @@ heading_begins Logic = refl
 heading_begins RamBottom = refl
 heading_begins RamTop = refl
 
--- the device is named, no section takes the next line, and no tile is open
+-- the device is named, no section takes the next line, and neither a tile nor a block RAM is open
 abbrev pub ready : List TileAt → Configuration → Reading
-ready seen bits = record { line = 0; has_device = true; section = Nowhere; rows = []; seen = seen; bits = bits }
+ready seen bits = record { line = 0; has_device = true; section = Nowhere; rows = []; words = []; seen = seen; filled = keys_of bits.contents; bits = bits }
 
 abbrev pub entered : List TileAt → Configuration → ℕ → TileAt → TileKind → Reading
 entered seen bits heading at kind = within (ready (seen ++ at ∷ []) bits) heading at kind []
@@ -188,13 +189,13 @@ three_read extra small =
     ∙ ap (option_map (extra_bit extra.0 extra.1)) (number_in_decimal extra.2 small.row)
 
 pub extra_read : (parts : Parts) (seen : List TileAt) (bits : Configuration) (extra : ℕ × ℕ × ℕ) (n : ℕ) → IsSmall extra
-    → line_says parts (at_line (ready seen bits) n) (words (extra_line extra)) ≡ Ok (at_line (ready seen (record { tiles = bits.tiles; kinds = bits.kinds; extras = bits.extras ++ extra ∷ [] })) n)
+    → line_says parts (at_line (ready seen bits) n) (words (extra_line extra)) ≡ Ok (at_line (ready seen (record { tiles = bits.tiles; kinds = bits.kinds; extras = bits.extras ++ extra ∷ []; contents = bits.contents })) n)
 extra_read parts seen bits extra n small =
     ap (line_says parts (at_line (ready seen bits) n)) (extra_words extra small) ∙ ap (extra_says (at_line (ready seen bits) n)) (three_read extra small)
 
 -- ---- the lines before the tiles
 abbrev pub in_comment : Parts → Reading
-in_comment parts = record { line = 0; has_device = false; section = ReadOver; rows = []; seen = []; bits = blank parts }
+in_comment parts = record { line = 0; has_device = false; section = ReadOver; rows = []; words = []; seen = []; filled = []; bits = blank parts }
 
 pub comment_read : (parts : Parts) (n : ℕ) → line_says parts (at_line (start parts) n) (words (codes ".comment")) ≡ Ok (at_line (in_comment parts) n)
 unfolding words pieces

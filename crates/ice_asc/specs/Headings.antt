@@ -2,7 +2,7 @@
 use Rattle.std.specs.Prelude.{ℕ, List, if◌then◌else◌, codes, bytes_eq}
 use Rattle.ice_chip.specs.declared.rows.TileKind.TheVariants.{Io, Logic, RamBottom, RamTop}
 use Rattle.ice_asc.specs.declared.section.Heading.{Heading}
-use Rattle.ice_asc.specs.declared.section.Heading.TheVariants.{Device, Tile, ExtraBit, Symbol, Other}
+use Rattle.ice_asc.specs.declared.section.Heading.TheVariants.{Device, Tile, RamData, ExtraBit, Symbol, Other}
 
 -- every heading; the sections of other headings are read over
 abbrev pub heading_of : List ℕ → Heading
@@ -12,6 +12,7 @@ heading_of word =
     else (if bytes_eq word (codes ".logic_tile") then Tile Logic
     else (if bytes_eq word (codes ".ramb_tile") then Tile RamBottom
     else (if bytes_eq word (codes ".ramt_tile") then Tile RamTop
+    else (if bytes_eq word (codes ".ram_data") then RamData
     else (if bytes_eq word (codes ".extra_bit") then ExtraBit
     else (if bytes_eq word (codes ".sym") then Symbol
-    else Other))))))
+    else Other)))))))

@@ -1,6 +1,7 @@
 pub mod Faults
 pub mod Words
 pub mod Headings
+pub mod Hex
 pub mod Grammar
 pub mod Text
 pub mod RoundTrip

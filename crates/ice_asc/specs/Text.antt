@@ -3,12 +3,13 @@ use Rattle.std.specs.Prelude.{ℕ, Bool, List, ◌∷◌, ◌++◌, map, codes, 
 use Rattle.std.specs.List.{flat_map, range_with_len}
 use Rattle.ice_base.specs.declared.bit.BitAt.{BitAt}
 use Rattle.ice_base.specs.Lines.{text_of_lines}
-use Rattle.ice_chip.specs.Database.{Parts}
+use Rattle.ice_chip.specs.Database.{Parts, columns}
 use Rattle.ice_chip.specs.Listings.{tile_of}
-use Rattle.ice_chip.specs.Database.{columns}
+use Rattle.ice_base.specs.declared.number.TileAt.{TileAt}
 use Rattle.ice_chip.specs.declared.tile.Tile.{Tile}
 use Rattle.ice_bits.specs.Configuration.{Configuration, bits_of}
 use Rattle.ice_asc.specs.Words.{heading_of_kind}
+use Rattle.ice_asc.specs.Hex.{row_digits}
 
 -- 48 is `0`, 49 is `1`
 abbrev pub digit_of_bit : Bool → ℕ
@@ -32,13 +33,20 @@ tile_heading tile = spaced (heading_of_kind tile.kind) (spaced (decimal tile.at.
 abbrev pub tile_lines : Configuration → Tile → List (List ℕ)
 tile_lines k tile = tile_heading tile ∷ map (row_line (bits_of k tile.at) (columns tile.kind)) (range_with_len 0 16)
 
+abbrev pub content_heading : TileAt → List ℕ
+content_heading t = spaced (codes ".ram_data") (spaced (decimal t.x) (decimal t.y))
+
+-- the heading of a block RAM, and the sixteen rows of its words
+abbrev pub content_lines : TileAt × List (List Bool) → List (List ℕ)
+content_lines content = content_heading content.0 ∷ map (row_digits content.1) (range_with_len 0 16)
+
 abbrev pub extra_line : ℕ × ℕ × ℕ → List ℕ
 extra_line extra = spaced (codes ".extra_bit") (spaced (decimal extra.0) (spaced (decimal extra.1) (decimal extra.2)))
 
--- a comment and the device, the tiles of the chip in order, and the extra bits in order
+-- a comment and the device, the tiles of the chip in order, the words of block RAMs in order, and the extra bits in order
 abbrev pub asc_lines : Parts → Configuration → List (List ℕ)
 asc_lines parts k =
-    codes ".comment" ∷ codes "placed and routed" ∷ codes ".device 1k" ∷ (flat_map (tile_lines k) (map tile_of parts.tiles) ++ map extra_line k.extras)
+    codes ".comment" ∷ codes "placed and routed" ∷ codes ".device 1k" ∷ (flat_map (tile_lines k) (map tile_of parts.tiles) ++ (flat_map content_lines k.contents ++ map extra_line k.extras))
 
 -- the text that is written for the bits of a chip
 abbrev pub asc_text : Parts → Configuration → List ℕ

@@ -12,7 +12,9 @@ reading_view r = record {
   has_device = r.has_device;
   section = r.section;
   rows = r.rows;
+  words = r.words.items;
   seen = r.seen.keys;
+  filled = r.filled.keys;
   bits = r.bits;
 }
 

@@ -21,19 +21,19 @@ pub enum AscFault {
         /// The line.
         line: u32,
     },
-    /// The chip has no tile of the kind there.
+    /// The chip has no tile of the kind there, or no block RAM.
     #[error("line {line}: the chip has no such tile")]
     UnknownTile {
         /// The line.
         line: u32,
     },
-    /// A tile's second heading.
+    /// A tile's second heading, or a block RAM's.
     #[error("line {line}: a tile for the second time")]
     TileTwice {
         /// The line.
         line: u32,
     },
-    /// A line among a tile's sixteen isn't of the form, or an extra bit lacks its three numbers.
+    /// A line among the sixteen of a tile or a block RAM isn't of the form, or an extra bit lacks its three numbers.
     #[error("line {line}: bad row of bits")]
     BadRow {
         /// The line.
@@ -45,10 +45,10 @@ pub enum AscFault {
         /// The line.
         line: u32,
     },
-    /// The text ends before a tile's sixteen lines.
+    /// The text ends before the sixteen lines of a tile or a block RAM.
     #[error("line {line}: the tile lacks rows")]
     Truncated {
-        /// The line of the tile's heading.
+        /// The line of the heading.
         line: u32,
     },
     /// Want of memory.

@@ -1,6 +1,5 @@
 //! What the headings of sections say.
-ghost use Rattle.std.specs.Prelude.{◌≡◌, ◌∷◌};
-ghost use Rattle.ice_asc.specs.Grammar.{device_says, opened, tile_says, extra_says, heading_says};
+ghost use Rattle.ice_asc.specs.Grammar.{device_says, opened, tile_says, ram_opened, ram_says, extra_says, heading_says};
 ghost use Rattle.ice_asc.specs.Words.{extra_of_words};
 ghost use Rattle.ice_asc.specs.Views.{Says, Gives, reading_view};
 
@@ -11,6 +10,7 @@ use crate::words::{extra_of, tile_of};
 use ice_base::{TileAt, WordIter};
 use ice_bits::{TileBits, is_of_kind};
 use ice_chip::{Chip, TileKind};
+use ice_chip_rams::site_at;
 use std::alloc::Global;
 
 // `.device NAME`
@@ -65,6 +65,35 @@ fn tile_line(
     open(alloc, reading, kind, at)
 }
 
+// Opens a block RAM, which must be its first heading.
+fn open_ram(reading: &mut Reading, at: TileAt) -> Result<(), AscStop>
+    ensures { Gives (λ _. reading_view reading.new) result
+        (ram_opened (reading_view reading.old) at) }
+{
+    let heading = reading.line;
+    if !reading.filled.insert(at)? {
+        return Err(AscStop::Fault(AscFault::TileTwice { line: heading }));
+    }
+    reading.words.clear();
+    reading.section = Section::Words { heading, at };
+    Ok(())
+}
+
+// `.ram_data X Y`
+fn ram_line(chip: &Chip, reading: &mut Reading, tile: Option<TileAt>) -> Result<(), AscStop>
+    ensures { Gives (λ _. reading_view reading.new) result
+        (ram_says chip.now (reading_view reading.old) tile) }
+{
+    let line = reading.line;
+    let Some(at) = tile else {
+        return Err(AscStop::Fault(AscFault::UnknownTile { line }));
+    };
+    if site_at(chip, at).is_none() {
+        return Err(AscStop::Fault(AscFault::UnknownTile { line }));
+    }
+    open_ram(reading, at)
+}
+
 // `.extra_bit B X Y`
 fn extra_line(reading: &mut Reading, words: WordIter<'_>) -> Result<(), AscStop>
     ensures { Gives (λ _. reading_view reading.new) result
@@ -96,6 +125,12 @@ pub fn heading_line(
                 return Err(AscStop::Fault(AscFault::NoDevice { line: reading.line }));
             }
             tile_line(alloc, chip, reading, kind, tile_of(words))
+        }
+        Heading::RamData => {
+            if !reading.has_device {
+                return Err(AscStop::Fault(AscFault::NoDevice { line: reading.line }));
+            }
+            ram_line(chip, reading, tile_of(words))
         }
         Heading::ExtraBit => extra_line(reading, words),
         Heading::Symbol => {

@@ -3,6 +3,7 @@
 
 mod fault;
 mod headings;
+mod hex;
 mod laws;
 mod lines;
 mod read;

@@ -1,5 +1,4 @@
 //! What the lines of a text of bits say.
-ghost use Rattle.std.specs.Prelude.{◌≡◌, ◌∷◌};
 ghost use Rattle.ice_base.specs.Text.{words};
 ghost use Rattle.ice_asc.specs.Grammar.{words_say, line_says, lines_say, at_line};
 ghost use Rattle.ice_asc.specs.Views.{Gives, reading_view};
@@ -7,14 +6,14 @@ ghost use Rattle.ice_asc.specs.Views.{Gives, reading_view};
 use crate::fault::{AscFault, AscStop};
 use crate::headings::heading_line;
 use crate::reading::Reading;
-use crate::rows::row_line;
+use crate::rows::{row_line, words_line};
 use crate::section::{Section, heading_named};
 use ice_base::{Line, LineIter, WordIter, begins_with, words_of};
 use ice_chip::Chip;
 use std::alloc::Global;
 
 // A line with words.
-fn words_line(
+fn line_with_words(
     alloc: Global,
     chip: &Chip,
     reading: &mut Reading,
@@ -28,6 +27,7 @@ fn words_line(
         Section::Rows { heading, at, kind } => {
             row_line(alloc, reading, heading, at, kind, word, others)
         }
+        Section::Words { heading, at } => { words_line(alloc, reading, heading, at, word, others) }
         Section::ReadOver => {
             if !begins_with(b'.', word) {
                 return Ok(());
@@ -57,7 +57,7 @@ fn take_line(
     let mut words = words_of(line.text);
     match words.next() {
         None => Ok(()),
-        Some(word) => words_line(alloc, chip, reading, word, words),
+        Some(word) => line_with_words(alloc, chip, reading, word, words),
     }
 }
 

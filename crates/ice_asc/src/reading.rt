@@ -6,7 +6,7 @@ ghost use Rattle.ice_asc.specs.Views.{Says, reading_view};
 use crate::AscFault;
 use crate::section::Section;
 use ice_base::{NoMemory, TileAt};
-use ice_bits::{Bits, TileBits, blank};
+use ice_bits::{Bits, RamWord, TileBits, blank};
 use ice_chip::Chip;
 use indexmap::IndexSet;
 use std::alloc::Global;
@@ -22,8 +22,12 @@ pub struct Reading {
     pub section: Section,
     /// The rows so far of the tile that is open.
     pub rows: TileBits,
+    /// The words so far of the block RAM that is open.
+    pub words: Vec<RamWord>,
     /// The tiles that have had a heading.
     pub seen: IndexSet<TileAt>,
+    /// The lower tiles of the block RAMs that have had one.
+    pub filled: IndexSet<TileAt>,
     /// The bits.
     pub bits: Bits,
 }
@@ -37,7 +41,9 @@ pub fn begin(alloc: Global, chip: &Chip) -> Result<Reading, NoMemory>
         has_device: false,
         section: Section::Nowhere,
         rows: TileBits::new(alloc),
+        words: Vec::new(alloc),
         seen: IndexSet::new(alloc),
+        filled: IndexSet::new(alloc),
         bits: blank(alloc, chip)?,
     })
 }
@@ -46,7 +52,7 @@ pub fn begin(alloc: Global, chip: &Chip) -> Result<Reading, NoMemory>
 pub fn end(reading: Reading) -> Result<Bits, AscFault>
     ensures { Says (λ bits. bits) result (end_says (reading_view reading) reading.section) }
 {
-    if let Section::Rows { heading, .. } = reading.section {
+    if let Section::Rows { heading, .. } | Section::Words { heading, .. } = reading.section {
         drop(reading);
         return Err(AscFault::Truncated { line: heading });
     }

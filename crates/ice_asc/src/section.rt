@@ -21,6 +21,13 @@ pub enum Section {
         /// The kind of the tile.
         kind: TileKind,
     },
+    /// The words of a block RAM.
+    Words {
+        /// The line of its heading.
+        heading: u32,
+        /// The place of its lower tile.
+        at: TileAt,
+    },
 }
 
 /// What the first word of a heading names.
@@ -30,6 +37,8 @@ pub enum Heading {
     Device,
     /// `.io_tile` and its like
     Tile(TileKind),
+    /// `.ram_data`
+    RamData,
     /// `.extra_bit`
     ExtraBit,
     /// `.sym`
@@ -56,6 +65,9 @@ pub fn heading_named(word: &[u8]) -> Heading
     }
     if word == b".ramt_tile".as_slice() {
         return Heading::Tile(TileKind::RamTop);
+    }
+    if word == b".ram_data".as_slice() {
+        return Heading::RamData;
     }
     if word == b".extra_bit".as_slice() {
         return Heading::ExtraBit;

@@ -2,7 +2,7 @@
 ghost use Rattle.std.specs.Prelude.{◌≡◌, map};
 ghost use Rattle.ice_base.specs.Lists.{all_known};
 ghost use Rattle.ice_base.specs.Places.{digit_value};
-ghost use Rattle.ice_asc.specs.Words.{bits_of_digits, row_of_words, tile_of_words, extra_of_words};
+ghost use Rattle.ice_asc.specs.Words.{row_of_words, tile_of_words, extra_of_words};
 ghost use Rattle.ice_asc.specs.Grammar.{known_row};
 ghost use Rattle.ice_asc.specs.Views.{Gives};
 

@@ -1,23 +1,31 @@
 //! Writing the text of bits.
-ghost use Rattle.std.specs.Prelude.{◌≡◌, ◌≤◌, ◌<◌, ◌^◌, ◌∷◌, [], ◌++◌, map, decimal, option_map, All, Ok, OnOk, OnErr};
+ghost use Rattle.std.specs.Prelude.{◌≡◌, ◌<◌, ◌^◌, ◌∷◌, [], ◌++◌, map, decimal, option_map, All, Ok, OnOk, OnErr};
 ghost use Rattle.std.specs.List.{flat_map, range_with_len};
 ghost use Rattle.ice_base.specs.Lines.{text_of_lines};
-ghost use Rattle.ice_bits.specs.Configuration.{bit_at, bits_of};
+ghost use Rattle.ice_bits.specs.Configuration.{bit_at};
 ghost use Rattle.ice_bits.specs.Grids.{IsOf};
-ghost use Rattle.ice_chip.specs.Listings.{tile_of};
 ghost use Rattle.ice_asc.specs.Grammar.{asc_in};
 ghost use Rattle.ice_asc.specs.Words.{heading_of_kind};
 ghost use Rattle.ice_asc.specs.RoundTrip.{IsSmall};
-ghost use Rattle.ice_asc.specs.Text.{digit_of_bit, row_line, tile_heading, tile_lines, extra_line, asc_text};
+ghost use Rattle.ice_asc.specs.Text.{digit_of_bit, row_line, tile_heading, tile_lines, content_heading, content_lines, extra_line, asc_text};
+ghost use Rattle.ice_asc.specs.Hex.{row_digits};
+ghost use Rattle.ice_bits.specs.ContentViews.{content_view};
 
+use crate::hex::row_digit;
 use crate::laws::written_is_read;
-use ice_base::{BitAt, NoMemory};
-use ice_bits::{Bits, TileBits};
+use ice_base::{BitAt, NoMemory, TileAt};
+use ice_bits::{Bits, RamWord, TileBits};
 use ice_chip::{Chip, Tile, TileKind};
 use itoa::Buffer;
 
 /// How many rows a tile has.
 const ROWS: u8 = 16;
+
+/// How many rows the words of a block RAM have.
+const WORD_ROWS: u16 = 16;
+
+/// How many digits such a row has.
+const DIGITS: u16 = 64;
 
 // Writes a line.
 fn put_line(out: &mut Vec<u8>, line: &[u8]) -> Result<(), NoMemory>
@@ -131,6 +139,63 @@ fn put_tiles(out: &mut Vec<u8>, bits: &Bits, tiles: &[Tile]) -> Result<(), NoMem
     Ok(())
 }
 
+// Writes the heading of a block RAM.
+fn put_content_heading(out: &mut Vec<u8>, tile: TileAt) -> Result<(), NoMemory>
+    ensures { OnOk result
+        (out.new.items ≡ out.old.items ++ text_of_lines (content_heading tile ∷ [])) }
+{
+    out.extend_from_slice(b".ram_data")?;
+    put_field(out, u32::from(tile.x))?;
+    put_field(out, u32::from(tile.y))?;
+    out.push(b'\n')?;
+    Ok(())
+}
+
+// Writes a row of the words of a block RAM.
+fn put_digits(out: &mut Vec<u8>, words: &[RamWord], row: u16) -> Result<(), NoMemory>
+    requires { row < 16 }
+    ensures { OnOk result
+        (out.new.items ≡ out.old.items ++ text_of_lines (row_digits words.now row ∷ [])) }
+{
+    for place in 0..DIGITS {
+        out.push(row_digit(words, row, place))?;
+    }
+    out.push(b'\n')?;
+    Ok(())
+}
+
+// Writes the sixteen rows of the words of a block RAM.
+fn put_words(out: &mut Vec<u8>, words: &[RamWord]) -> Result<(), NoMemory>
+    ensures { OnOk result (out.new.items
+        ≡ out.old.items ++ text_of_lines (map (row_digits words.now) (range_with_len 0 16))) }
+{
+    for row in 0..WORD_ROWS {
+        put_digits(out, words, row)?;
+    }
+    Ok(())
+}
+
+// Writes the heading of a block RAM and its words.
+fn put_content(out: &mut Vec<u8>, content: &(TileAt, Vec<RamWord>)) -> Result<(), NoMemory>
+    ensures { OnOk result (out.new.items
+        ≡ out.old.items ++ text_of_lines (content_lines (content_view content.now))) }
+{
+    put_content_heading(out, content.0)?;
+    put_words(out, &content.1)?;
+    Ok(())
+}
+
+// Writes the words of block RAMs in order.
+fn put_contents(out: &mut Vec<u8>, contents: &[(TileAt, Vec<RamWord>)]) -> Result<(), NoMemory>
+    ensures { OnOk result (out.new.items ≡ out.old.items ++ text_of_lines
+        (flat_map (λ content. content_lines (content_view content)) contents.now)) }
+{
+    for content in contents {
+        put_content(out, content)?;
+    }
+    Ok(())
+}
+
 // Writes an extra bit.
 fn put_extra(out: &mut Vec<u8>, extra: &(u32, u32, u32)) -> Result<(), NoMemory>
     ensures written { OnOk result
@@ -157,7 +222,7 @@ fn put_extras(out: &mut Vec<u8>, extras: &[(u32, u32, u32)]) -> Result<(), NoMem
     Ok(())
 }
 
-// Writes the text of the bits: a comment and the device, the tiles and the extra bits.
+// Writes the text of the bits: a comment and the device, the tiles, the words of block RAMs, and the extra bits.
 fn put_text(out: &mut Vec<u8>, bits: &Bits, chip: &Chip) -> Result<(), NoMemory>
     ensures written { OnOk result (out.new.items ≡ out.old.items ++ asc_text chip.now bits.now) }
     ensures small { OnOk result (All IsSmall bits.now.extras) }
@@ -166,13 +231,15 @@ fn put_text(out: &mut Vec<u8>, bits: &Bits, chip: &Chip) -> Result<(), NoMemory>
     put_line(out, b"placed and routed")?;
     put_line(out, b".device 1k")?;
     put_tiles(out, bits, chip.tiles())?;
+    put_contents(out, bits.contents())?;
     put_extras(out, bits.extras())?;
     Ok(())
 }
 
 /// Appends the text of the bits: a comment and the device, each tile of the chip in order with its heading and sixteen
-/// rows, and the extra bits in order. Where the bits are of this chip, the text says exactly these bits. It is made apart
-/// from what it is appended to, so that want of memory changes nothing.
+/// rows, the words of block RAMs in order, each with its heading and sixteen rows, and the extra bits in order. Where the bits are
+/// of this chip, the text says exactly these bits. It is made apart from what it is appended to, so that want of memory changes
+/// nothing.
 ///
 /// # Errors
 /// Want of memory alone.

@@ -15,7 +15,7 @@ use Rattle.ice_bits.specs.Rewriting.{with_rows}
 use Rattle.ice_asc.specs.Words.{heading_of_kind, bits_of_digits, tile_of_words}
 use Rattle.ice_asc.specs.Headings.{heading_of}
 use Rattle.ice_asc.specs.declared.section.Section.{Section}
-use Rattle.ice_asc.specs.declared.section.Section.TheVariants.{Nowhere, ReadOver, Rows}
+use Rattle.ice_asc.specs.declared.section.Section.TheVariants.{Nowhere, ReadOver, Rows, Words}
 use Rattle.ice_asc.specs.declared.section.Heading.TheVariants.{Tile}
 use Rattle.ice_asc_laws.specs.NamedTiles.{Line, Begins, IsHeading, row_of, begins_extra, extra_of, Names, IsUnnamed}
 use Rattle.ice_asc_laws.proofs.Headed.{word_of_tile, tile_of_word, extra_is, plain_line, plain_extra, row_plain}
@@ -31,6 +31,7 @@ abbrev pub BeganRight : Parts → List TileAt → Section → Type 0
 BeganRight parts seen Nowhere = Unit {0}
 BeganRight parts seen ReadOver = Unit {0}
 BeganRight parts seen (Rows heading at kind) = IsBegun parts seen at kind
+BeganRight parts seen (Words heading at) = Unit {0}
 
 -- there are rows for each tile of the chip
 pub record IsReady (parts : Parts) (section : Section) (seen : List TileAt) (bits : Configuration) : Type 0 where
@@ -49,6 +50,7 @@ abbrev pub Closes : Section → Grid → List Line → Configuration → Type 0
 Closes Nowhere rows lines k = Unit {0}
 Closes ReadOver rows lines k = Unit {0}
 Closes (Rows heading at kind) rows lines k = Finishes at kind rows lines k
+Closes (Words heading at) rows lines k = Unit {0}
 
 -- a tile of this kind stands there, and its sixteen rows are those of the lines behind its heading
 pub record HasRows (parts : Parts) (behind : List Line) (kind : TileKind) (t : TileAt) (k : Configuration) : Type 0 where
@@ -62,6 +64,7 @@ abbrev pub is_open : Section → TileAt → Bool
 is_open Nowhere t = false
 is_open ReadOver t = false
 is_open (Rows heading at kind) t = same_tile at t
+is_open (Words heading at) t = false
 
 abbrev pub BeginsAt : List Line → ℕ → TileKind → Type 0
 BeginsAt lines i kind = IsSomeAnd (slice_get lines i) (λ (line : Line). Begins line kind)
@@ -71,7 +74,7 @@ abbrev pub extras_with : List (ℕ × ℕ × ℕ) → List Line → List (Option
 extras_with extras lines = map Some extras ++ map extra_of (filter begins_extra lines)
 
 -- a line that writes none
-no_extra : (extras : List (ℕ × ℕ × ℕ)) (line : Line) (lines : List Line) → begins_extra line ≡ false → extras_with extras (line ∷ lines) ≡ extras_with extras lines
+pub no_extra : (extras : List (ℕ × ℕ × ℕ)) (line : Line) (lines : List Line) → begins_extra line ≡ false → extras_with extras (line ∷ lines) ≡ extras_with extras lines
 no_extra extras line lines none = ap (λ (x : Bool). map Some extras ++ map extra_of (cond x (line ∷ filter begins_extra lines) (filter begins_extra lines))) none
 
 -- a line that writes one
@@ -135,16 +138,19 @@ abbrev pub IsShut : Section → Type 0
 IsShut Nowhere = Unit {0}
 IsShut ReadOver = Unit {0}
 IsShut (Rows heading at kind) = ⊥
+IsShut (Words heading at) = Unit {0}
 
 pub shut_closes : (section : Section) (rows : Grid) (lines : List Line) (k : Configuration) → IsShut section → Closes section rows lines k
 shut_closes Nowhere rows lines k shut = tt
 shut_closes ReadOver rows lines k shut = tt
 shut_closes (Rows heading at kind) rows lines k shut = absurd shut
+shut_closes (Words heading at) rows lines k shut = tt
 
 none_open : (section : Section) (t : TileAt) → IsShut section → is_open section t ≡ false
 none_open Nowhere t shut = refl
 none_open ReadOver t shut = refl
 none_open (Rows heading at kind) t shut = absurd shut
+none_open (Words heading at) t shut = refl
 
 -- a line that says nothing of the bits
 pub skipped : (parts : Parts) (section next : Section) (rows next_rows : Grid) (seen : List TileAt) (bits : Configuration) (line : Line) (lines : List Line) (k : Configuration)

@@ -1,5 +1,5 @@
 -- What each line of a text does to what is read, and so what a whole text says.
-use Rattle.std.proofs.Common.{◌≡◌, ℕ, zero, suc, ◌+◌, Bool, true, false, cond, Option, None, Some, Result, Ok, Err, IfOk, List, [], ◌∷◌, ◌++◌, length, map, filter, drop, slice_get, nat_eq, codes, bytes_eq, if◌then◌else◌, refl, sym, ap, ◌∙◌, subst, append-nil, arith, rules, tests}
+use Rattle.std.proofs.Common.{◌≡◌, ℕ, zero, suc, ◌+◌, Bool, true, false, cond, Option, None, Some, is_some, Result, Ok, Err, IfOk, List, [], ◌∷◌, ◌++◌, length, map, filter, drop, slice_get, nat_eq, codes, bytes_eq, if◌then◌else◌, refl, sym, ap, ◌∙◌, subst, append-nil, arith, rules, tests}
 use Rattle.std.specs.List.{list_any}
 use Rattle.std.specs.Option.{option_and_then}
 use Rattle.std.proofs.lemmas.List.Folds.{list_any-append}
@@ -14,21 +14,23 @@ use Rattle.ice_chip.specs.declared.rows.TileKind.{TileKind}
 use Rattle.ice_chip.proofs.SameKinds.{kind_same}
 use Rattle.ice_bits.specs.Configuration.{Configuration, bit_at}
 use Rattle.ice_bits.specs.Grids.{is_of_kind, blank}
-use Rattle.ice_bits.specs.Rewriting.{with_rows}
+use Rattle.ice_bits.specs.Rewriting.{with_rows, with_content}
+use Rattle.ice_chip_rams.specs.Sites.{site_at}
 use Rattle.ice_asc.specs.Faults.{◌>>=◌}
 use Rattle.ice_asc.specs.Words.{bits_of_digits, tile_of_words, extra_of_words}
 use Rattle.ice_asc.specs.Headings.{heading_of}
-use Rattle.ice_asc.specs.Grammar.{Reading, start, with_row, known_row, row_says, device_says, opened, tile_says, extra_says, heading_says, words_say, line_says, at_line, lines_say, end_says, asc_in}
+use Rattle.ice_asc.specs.Grammar.{Reading, start, with_row, known_row, row_says, device_says, opened, tile_says, extra_says, heading_says, words_say, line_says, at_line, lines_say, end_says, asc_in, ram_opened, ram_says, known_values, with_words, words_row_says}
+use Rattle.ice_asc.specs.Hex.{row_words, values_of_line}
 use Rattle.ice_asc.specs.declared.fault.AscFault.{AscFault}
 use Rattle.ice_asc.specs.declared.fault.AscFault.TheVariants as fault
 use Rattle.ice_asc.specs.declared.section.Section.{Section}
-use Rattle.ice_asc.specs.declared.section.Section.TheVariants.{Nowhere, ReadOver, Rows}
+use Rattle.ice_asc.specs.declared.section.Section.TheVariants.{Nowhere, ReadOver, Rows, Words}
 use Rattle.ice_asc.specs.declared.section.Heading.{Heading}
-use Rattle.ice_asc.specs.declared.section.Heading.TheVariants.{Device, Tile, ExtraBit, Symbol, Other}
+use Rattle.ice_asc.specs.declared.section.Heading.TheVariants.{Device, Tile, RamData, ExtraBit, Symbol, Other}
 use Rattle.ice_asc_laws.specs.NamedTiles.{Line, has_words, worded, row_of, begins_extra, HasItsRows, SayBits}
-use Rattle.ice_asc_laws.proofs.Headed.{is_tile, other_heading, extra_is, plain_line, plain_extra}
+use Rattle.ice_asc_laws.proofs.Headed.{is_tile, other_heading, extra_is, plain_line, plain_extra, values_plain}
 use Rattle.ice_asc_laws.proofs.TilesWith.{Grid, tiles_stay, blank_has, blank_bit}
-use Rattle.ice_asc_laws.proofs.Sections.{BeganRight, HasRows, IsReady, IsShut, Says, beside, extra_more, named_first, row_before, row_last, shut_closes, skipped}
+use Rattle.ice_asc_laws.proofs.Sections.{BeganRight, HasRows, IsReady, IsShut, Says, beside, no_extra, extra_more, named_first, row_before, row_last, shut_closes, skipped}
 
 -- ---- one line
 abbrev with_line : Line → List Line → List Line
@@ -66,6 +68,29 @@ row_line parts r n at kind w [] ready = by (bits_of_digits (columns kind) w) ref
     by None is = tt
     by (Some row) is = of_length row is (nat_eq (length (r.rows ++ row ∷ [])) 16) refl
 
+-- a row of a block RAM's words
+words_row : (parts : Parts) (r : Reading) (n : ℕ) (at : TileAt) (w : List ℕ) (ws : List (List ℕ)) → IsReady parts (Words n at) r.seen r.bits
+    → IfOk (words_row_says r n at w ws) (GoesOn parts (Words n at) r (w ∷ ws))
+words_row parts r n at w ws ready = by (values_of_line w ws) refl
+  where
+    of_length : (values : List ℕ) → begins_with 46 w ≡ false → (x : Bool)
+        → GoesOn parts (Words n at) r (w ∷ ws)
+        (cond x (record r { section = Nowhere; words = []; bits = with_content at (r.words ++ row_words values) r.bits }) (record r { section = Words n at; words = r.words ++ row_words values }))
+    of_length values plain true = (
+      record { there = ready.there; begun = tt },
+      λ lines k f. beside parts (Words n at) Nowhere r.rows r.rows r.seen r.bits (with_content at (r.words ++ row_words values) r.bits) (w ∷ ws) lines k (plain_line w ws plain)
+          (λ t _ free. f.others t refl free) (no_extra r.bits.extras (w ∷ ws) lines (plain_extra w ws plain) ∙ f.extras) tt f,
+    )
+    of_length values plain false = (
+      record { there = ready.there; begun = tt },
+      λ lines k f. skipped parts (Words n at) (Words n at) r.rows r.rows r.seen r.bits (w ∷ ws) lines k tt tt (plain_line w ws plain) (plain_extra w ws plain) f,
+    )
+
+    by : (o : Option (List ℕ)) → values_of_line w ws ≡ o
+        → IfOk (known_values r.line o >>= (λ values. Ok (with_words r n at (r.words ++ row_words values)))) (GoesOn parts (Words n at) r (w ∷ ws))
+    by None is = tt
+    by (Some values) is = of_length values (values_plain w ws values is) (nat_eq (length (r.words ++ row_words values)) 256)
+
 -- a heading that names no tile and writes no extra bit
 other_line : (parts : Parts) (section next : Section) (r : Reading) (h : Heading) (device : Bool) (w : List ℕ) (ws : List (List ℕ)) → IsShut section → IsShut next → BeganRight parts r.seen next
     → IsReady parts section r.seen r.bits → heading_of w ≡ h → is_tile h ≡ false → begins_extra (w ∷ ws) ≡ false
@@ -93,7 +118,7 @@ extra_line parts section r w ws shut ready is = by (extra_of_words ws) refl
     by None e = tt
     by (Some extra) e = (
       record { there = ready.there; begun = tt },
-      λ lines k f. beside parts section Nowhere r.rows r.rows r.seen r.bits (record { tiles = r.bits.tiles; kinds = r.bits.kinds; extras = r.bits.extras ++ extra ∷ [] }) (w ∷ ws) lines k
+      λ lines k f. beside parts section Nowhere r.rows r.rows r.seen r.bits (record { tiles = r.bits.tiles; kinds = r.bits.kinds; extras = r.bits.extras ++ extra ∷ []; contents = r.bits.contents }) (w ∷ ws) lines k
           (other_heading w ws ExtraBit is refl) (λ t _ free. f.others t refl free)
           (extra_more r.bits.extras extra (w ∷ ws) lines (extra_is w ws ExtraBit is) e ∙ f.extras)
           (shut_closes section r.rows ((w ∷ ws) ∷ lines) k shut) f,
@@ -130,6 +155,27 @@ tile_line parts section r kind w ws shut ready is = by (tile_of_words ws) refl
     by None e = tt
     by (Some at) e = of_kind at e (kind_at parts at) refl
 
+-- the heading of a block RAM's words
+ram_line : (parts : Parts) (section : Section) (r : Reading) (w : List ℕ) (ws : List (List ℕ)) → IsShut section → IsReady parts section r.seen r.bits → heading_of w ≡ RamData
+    → IfOk (ram_says parts r (tile_of_words ws)) (GoesOn parts section r (w ∷ ws))
+ram_line parts section r w ws shut ready is = by (tile_of_words ws)
+  where
+    opens : (at : TileAt) (x : Bool)
+        → IfOk (if x then Err (fault.TileTwice r.line) else Ok (record r { section = Words r.line at; words = []; filled = r.filled ++ at ∷ [] })) (GoesOn parts section r (w ∷ ws))
+    opens at true = tt
+    opens at false = (
+      record { there = ready.there; begun = tt },
+      λ lines k f. skipped parts section (Words r.line at) r.rows r.rows r.seen r.bits (w ∷ ws) lines k shut tt (other_heading w ws RamData is refl) (extra_is w ws RamData is) f,
+    )
+
+    there : (at : TileAt) (x : Bool) → IfOk (if x then ram_opened r at else Err (fault.UnknownTile r.line)) (GoesOn parts section r (w ∷ ws))
+    there at true = opens at (list_any (same_tile at) r.filled)
+    there at false = tt
+
+    by : (o : Option TileAt) → IfOk (ram_says parts r o) (GoesOn parts section r (w ∷ ws))
+    by None = tt
+    by (Some at) = there at (is_some (site_at parts at))
+
 heading_line : (parts : Parts) (section : Section) (r : Reading) (w : List ℕ) (ws : List (List ℕ)) → IsShut section → IsReady parts section r.seen r.bits → (h : Heading) → heading_of w ≡ h
     → IfOk (heading_says parts r h ws) (GoesOn parts section r (w ∷ ws))
 heading_line parts section r w ws shut ready Device is = device_line parts section r w ws shut ready is
@@ -138,6 +184,11 @@ heading_line parts section r w ws shut ready (Tile kind) is = by r.has_device
     by : (x : Bool) → IfOk (if x then tile_says parts r kind (tile_of_words ws) else Err (fault.NoDevice r.line)) (GoesOn parts section r (w ∷ ws))
     by true = tile_line parts section r kind w ws shut ready is
     by false = tt
+heading_line parts section r w ws shut ready RamData is = by r.has_device
+  where
+    by : (x : Bool) → IfOk (if x then ram_says parts r (tile_of_words ws) else Err (fault.NoDevice r.line)) (GoesOn parts section r (w ∷ ws))
+    by true = ram_line parts section r w ws shut ready is
+    by false = tt
 heading_line parts section r w ws shut ready ExtraBit is = extra_line parts section r w ws shut ready is
 heading_line parts section r w ws shut ready Symbol is = other_line parts section Nowhere r Symbol r.has_device w ws shut tt tt ready is refl (extra_is w ws Symbol is)
 heading_line parts section r w ws shut ready Other is = other_line parts section ReadOver r Other r.has_device w ws shut tt tt ready is refl (extra_is w ws Other is)
@@ -145,6 +196,7 @@ heading_line parts section r w ws shut ready Other is = other_line parts section
 words_line : (parts : Parts) (r : Reading) (section : Section) (w : List ℕ) (ws : List (List ℕ)) → section ≡ r.section → IsReady parts section r.seen r.bits
     → IfOk (words_say parts r section w ws) (GoesOn parts section r (w ∷ ws))
 words_line parts r (Rows n at kind) w ws same ready = row_line parts r n at kind w ws ready
+words_line parts r (Words n at) w ws same ready = words_row parts r n at w ws ready
 words_line parts r Nowhere w ws same ready = by (begins_with 46 w)
   where
     by : (x : Bool) → IfOk (if x then heading_says parts r (heading_of w) ws else Err (fault.UnknownWord r.line)) (GoesOn parts Nowhere r (w ∷ ws))
@@ -169,6 +221,7 @@ said_line parts r (w ∷ ws) ready = words_line parts r r.section w ws refl read
 -- ---- all lines
 at_end : (parts : Parts) (r : Reading) (section : Section) → IfOk (end_says r section) (Says parts section r.rows r.seen r.bits [])
 at_end parts r (Rows n at kind) = tt
+at_end parts r (Words n at) = tt
 at_end parts r ReadOver = by r.has_device
   where
     by : (x : Bool) → IfOk (if x then Ok r.bits else Err (fault.NoDevice r.line)) (Says parts ReadOver r.rows r.seen r.bits [])

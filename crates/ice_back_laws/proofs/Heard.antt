@@ -1,6 +1,7 @@
 -- Wires of pads that something reads.
-use Rattle.std.proofs.Common.{◌≡◌, ℕ, suc, ◌+◌, ◌<◌, Bool, true, false, cond, Option, None, Some, List, [], ◌∷◌, map, arith, refl, sym, ap, ◌∙◌, subst, eq-eqb}
+use Rattle.std.proofs.Common.{◌≡◌, ℕ, suc, ◌+◌, ◌<◌, ◌&&◌, Bool, true, false, cond, Option, None, Some, List, [], ◌∷◌, map, arith, refl, sym, ap, ◌∙◌, subst, eq-eqb}
 use Rattle.std.specs.Prelude.{bytes_eq, codes, option_map}
+use Rattle.std.specs.Option.{option_and_then, option_or}
 use Rattle.std.specs.List.{list_any, range_with_len}
 use Rattle.std.proofs.lemmas.Bool.{or_left, or_right}
 use Rattle.std.proofs.lemmas.Option.{same_Some, none-some}
@@ -11,6 +12,7 @@ use Rattle.ice_base_values.proofs.Members.{Has_any, At_map}
 use Rattle.ice_chip.specs.Database.{Parts}
 use Rattle.ice_chip.specs.Lookups.{kind_at, names_of, wire_named, placed_at}
 use Rattle.ice_chip.specs.Names.{cell_pin, is_global_name, pad_input_name, in_out_enable_name}
+use Rattle.ice_chip.specs.RamNames.{has_ram_wire, ram_number, is_read_out, is_clock_enable, pin_at}
 use Rattle.ice_chip.specs.declared.rows.Pad.{Pad}
 use Rattle.ice_chip.specs.declared.rows.TileKind.{TileKind}
 use Rattle.ice_chip.specs.declared.rows.TileKind.TheVariants.{Io, Logic, RamBottom, RamTop}
@@ -23,8 +25,8 @@ use Rattle.ice_decode.specs.declared.driver.Driver.TheVariants.{By}
 use Rattle.ice_decode.specs.declared.point.Point.{Point}
 use Rattle.ice_decode.specs.declared.point.Point.TheVariants.{Wire, Carry}
 use Rattle.ice_decode.specs.declared.role.Role.{Role}
-use Rattle.ice_decode.specs.declared.role.Role.TheVariants.{Plain, Output, LookUp, CarryOut, PadInput, Global, CarryIn, ClockEnable}
-use Rattle.ice_decode.specs.Drivers.{driver, number_at, global_role, output_role, or_global, logic_role, io_role, role_in, role_or, first_role, role_of}
+use Rattle.ice_decode.specs.declared.role.Role.TheVariants.{Plain, Output, LookUp, CarryOut, PadInput, RamOutput, Global, CarryIn, ClockEnable}
+use Rattle.ice_decode.specs.Drivers.{driver, number_at, global_role, output_role, or_global, logic_role, io_role, role_in, role_or, first_role, role_of, ram_wire_role, ram_role}
 use Rattle.ice_decode.specs.Reads.{wire_point, at_pin}
 use Rattle.ice_decode.proofs.Members.{At_range}
 use Rattle.ice_back_laws.specs.Roots.{leads_from, is_reading_name, is_heard_at, is_heard}
@@ -40,6 +42,7 @@ Names t name (Output u i) = Unit {0}
 Names t name (LookUp u i) = Unit {0}
 Names t name (CarryOut u i) = Unit {0}
 Names t name (PadInput pad) = IsPadName pad t name
+Names t name (RamOutput pad) = Unit {0}
 Names t name (Global n) = Unit {0}
 Names t name (CarryIn u) = Unit {0}
 Names t name ClockEnable = Unit {0}
@@ -85,12 +88,28 @@ io_names t name = of (bytes_eq name (codes "io_0/D_IN_0")) (bytes_eq name (codes
     of false false true e f = tt
     of false false false e f = global_names t name
 
+ram_names : (t : TileAt) (kind : TileKind) (name : List ℕ) → NamesIf t name (ram_role t kind name)
+ram_names t kind name = either (option_and_then (ram_wire_role t kind) (ram_number name)) (wire (ram_number name))
+  where
+    either : (role : Option Role) → NamesIf t name role → NamesIf t name (option_or role (global_role name))
+    either None given = global_names t name
+    either (Some role) given = given
+
+    of : (a b : Bool) (n : ℕ) → NamesIf t name (cond a (Some (RamOutput (pin_at t n))) (cond b (Some ClockEnable) None))
+    of true b n = tt
+    of false true n = tt
+    of false false n = tt
+
+    wire : (o : Option ℕ) → NamesIf t name (option_and_then (ram_wire_role t kind) o)
+    wire None = tt
+    wire (Some n) = of (has_ram_wire kind n && is_read_out n) (has_ram_wire kind n && is_clock_enable n) n
+
 in_names : (t : TileAt) (kind : Option TileKind) (name : List ℕ) → NamesIf t name (role_in t kind name)
 in_names t None name = tt
 in_names t (Some Io) name = io_names t name
 in_names t (Some Logic) name = logic_names t name
-in_names t (Some RamBottom) name = global_names t name
-in_names t (Some RamTop) name = global_names t name
+in_names t (Some RamBottom) name = ram_names t RamBottom name
+in_names t (Some RamTop) name = ram_names t RamTop name
 
 -- the name among these that gives a pad's role
 pad_named : (parts : Parts) (names : List PlacedName) (pad : Pad) → first_role parts names ≡ PadInput pad → Has names (placed_at pad.tile (pad_input_name pad.pio))
@@ -121,6 +140,7 @@ module _ (parts : Parts) (bits : Bits) (laws : HasNames parts) where
   IsHeardAs (LookUp t i) = Unit {0}
   IsHeardAs (CarryOut t i) = Unit {0}
   IsHeardAs (PadInput pad) = is_heard parts bits pad ≡ true
+  IsHeardAs (RamOutput pad) = Unit {0}
   IsHeardAs (Global n) = Unit {0}
   IsHeardAs (CarryIn t) = Unit {0}
   IsHeardAs ClockEnable = Unit {0}
@@ -138,6 +158,7 @@ module _ (parts : Parts) (bits : Bits) (laws : HasNames parts) where
       of (LookUp t i) e = tt
       of (CarryOut t i) e = tt
       of (PadInput pad) e = heard_by w pad e heard
+      of (RamOutput pad) e = tt
       of (Global n) e = tt
       of (CarryIn t) e = tt
       of ClockEnable e = tt

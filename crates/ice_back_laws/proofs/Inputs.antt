@@ -18,7 +18,8 @@ use Rattle.ice_decode.specs.declared.point.Point.{Point}
 use Rattle.ice_decode.specs.declared.point.Point.TheVariants.{Carry}
 use Rattle.ice_decode.specs.Cells.{logic_tiles}
 use Rattle.ice_decode.specs.Meaning.{chip_system}
-use Rattle.ice_decode.specs.Reads.{points, count_points, at_pin, cell_inputs, carry_into, carry_inputs}
+use Rattle.ice_decode.specs.Reads.{count_points, at_pin, cell_inputs, carry_into, carry_inputs}
+use Rattle.ice_decode.specs.Points.{points}
 use Rattle.ice_decode.specs.Refusals.{IsFaultless}
 use Rattle.ice_decode.proofs.KeptLevels.{tile_at}
 use Rattle.ice_decode.proofs.PointPlaces.{carry_at}

@@ -27,7 +27,8 @@ use Rattle.ice_decode.specs.declared.point.Point.{Point}
 use Rattle.ice_decode.specs.declared.point.Point.TheVariants.{Carry}
 use Rattle.ice_decode.specs.Cells.{table_entry, looked_up, has_carry, logic_tiles}
 use Rattle.ice_decode.specs.Meaning.{point_level, chip_system, makes_at}
-use Rattle.ice_decode.specs.Reads.{points, count_points, cell_inputs, carry_inputs}
+use Rattle.ice_decode.specs.Reads.{count_points, cell_inputs, carry_inputs}
+use Rattle.ice_decode.specs.Points.{points}
 use Rattle.ice_decode.specs.Refusals.{IsFaultless}
 use Rattle.ice_decode.proofs.KeptLevels.{tile_at}
 use Rattle.ice_decode.proofs.Members.{At_range}

@@ -6,9 +6,11 @@ use Rattle.std.proofs.lemmas.Option.{same_Some, none-some, slice_get-get_or}
 use Rattle.ice_base.specs.declared.number.SignalNo.{SignalNo}
 use Rattle.ice_base_values.specs.System.{present}
 use Rattle.ice_base_values.specs.Order.{At, Has, IsCycleBelow}
+use Rattle.ice_base_values.proofs.Members.{Has_all}
 use Rattle.ice_base_values.proofs.Cycles.{cycle_goes_on, value_no_cycle}
 use Rattle.ice_chip.specs.Database.{Parts, PackageRows}
 use Rattle.ice_chip.specs.IsRead.{IsRead}
+use Rattle.ice_chip.specs.Within.{IsPackage}
 use Rattle.ice_chip_laws.specs.Laws.{LookupsAreLawful}
 use Rattle.ice_chip_laws.specs.Names.{HasNames}
 use Rattle.ice_bits.specs.Configuration.{Bits}
@@ -27,7 +29,8 @@ use Rattle.ice_back_laws.specs.Numbers.{root_number, signal}
 use Rattle.ice_back_laws.specs.Roots.{LevelRoot, Fixed, Input, Taken, Given, Kept, Level, Table, Register, Sum, pad_at}
 use Rattle.ice_back_laws.proofs.Ranks.{IsThere}
 use Rattle.ice_back_laws.proofs.Inputs.{IsNotTaken, good_some}
-use Rattle.ice_back_laws.proofs.Standing.{netlist, cell_of, cell_made, output_is, is_same}
+use Rattle.ice_back_laws.proofs.PinTypes.{pio_below}
+use Rattle.ice_back_laws.proofs.Standing.{netlist, cell_of, cell_made, output_is, is_same, pad_stands}
 use Rattle.ice_back_laws.proofs.Levels.{IsKeptRoot, chip_keeps, signal_arrives}
 
 -- a signal that has a place in a list stands there
@@ -48,12 +51,18 @@ none_at : (o : Option ℕ) (f : ℕ → ℕ) → false ≡ option_map_or (λ k. 
 none_at None f = refl
 none_at (Some k) f = refl
 
-module _ (parts : Parts) (bits : Bits) (extras : List (ℕ × ℕ × ℕ)) (read : IsRead parts) (names : HasNames parts) (faultless : IsFaultless parts bits extras) (package_rows : PackageRows) where
+module _ (parts : Parts) (bits : Bits) (extras : List (ℕ × ℕ × ℕ)) (read : IsRead parts) (names : HasNames parts) (faultless : IsFaultless parts bits extras) (package_rows : PackageRows)
+    (has : Has parts.packages package_rows) where
   abbrev n : NetlistData
   n = netlist parts bits extras package_rows
 
   nothing_quiet : AreQuiet parts bits package_rows.pads []
-  nothing_quiet = record { quiet = λ pad lt none. sym (none_at (register_place parts pad) (λ k. k + 0)) }
+  nothing_quiet = record {
+    quiet = λ pad lt none. sym (none_at (register_place parts pad) (λ k. k + 0));
+    pads = λ k lt.
+        pio_below parts.width parts.height package_rows (Has_all (IsPackage parts.width parts.height) parts.packages package_rows read.package_forms has) (pad_at package_rows.pads k)
+        (k, pad_stands package_rows.pads k lt);
+  }
 
   nothing_kept : (r : LevelRoot) → IsKeptRoot parts bits extras read names faultless package_rows r → false ≡ chip_keeps parts bits extras read names faultless package_rows [] r
   nothing_kept (Fixed level) never = absurd never
@@ -108,8 +117,9 @@ module _ (parts : Parts) (bits : Bits) (extras : List (ℕ × ℕ × ℕ)) (read
         | inr none ↦ absurd (none-some next.0 (subst (λ (row : List ℕ). At row next.1.0 next.0) none next.1.1))
       ]
 
-pub loopless : (parts : Parts) (bits : Bits) (extras : List (ℕ × ℕ × ℕ)) (package_rows : PackageRows) → IsRead parts → HasNames parts → IsFaultless parts bits extras → HasNoLoop (netlist parts bits extras package_rows)
-loopless parts bits extras package_rows read names faultless = record { none = no_cycle parts bits extras read names faultless package_rows }
+pub loopless : (parts : Parts) (bits : Bits) (extras : List (ℕ × ℕ × ℕ)) (package_rows : PackageRows) → IsRead parts → HasNames parts → IsFaultless parts bits extras → Has parts.packages package_rows
+    → HasNoLoop (netlist parts bits extras package_rows)
+loopless parts bits extras package_rows read names faultless has = record { none = no_cycle parts bits extras read names faultless package_rows has }
 
 pub has_no_loop : LookupsAreLawful → NetlistHasNoLoop
-has_no_loop lawful parts bits extras package_rows chip faultless has = loopless parts bits extras package_rows chip.read (lawful parts chip).names faultless
+has_no_loop lawful parts bits extras package_rows chip faultless has = loopless parts bits extras package_rows chip.read (lawful parts chip).names faultless has

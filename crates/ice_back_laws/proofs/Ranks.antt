@@ -23,13 +23,14 @@ use Rattle.ice_decode.specs.declared.point.Point.TheVariants.{Wire, Carry}
 use Rattle.ice_decode.specs.declared.driver.Driver.{Driver}
 use Rattle.ice_decode.specs.declared.driver.Driver.TheVariants.{Nothing, By, Several}
 use Rattle.ice_decode.specs.declared.role.Role.{Role}
-use Rattle.ice_decode.specs.declared.role.Role.TheVariants.{Plain, Output, LookUp, CarryOut, PadInput, Global, CarryIn, ClockEnable}
+use Rattle.ice_decode.specs.declared.role.Role.TheVariants.{Plain, Output, LookUp, CarryOut, PadInput, RamOutput, Global, CarryIn, ClockEnable}
 use Rattle.ice_decode.specs.Cells.{has_carry, has_flop, logic_tiles, tile_place}
 use Rattle.ice_decode.specs.Direct.{globals, takes_pad}
 use Rattle.ice_decode.specs.Drivers.{driver, role_of}
 use Rattle.ice_decode.specs.Meaning.{passes, chip_system, point_level}
 use Rattle.ice_decode.specs.Pads.{is_enabled, is_io_tile, io_tiles, has_input_register}
-use Rattle.ice_decode.specs.Reads.{wire_point, points, count_points, at_pin, at_pin_of, cell_inputs, carry_inputs, driven_reads, depends_on, global_feed}
+use Rattle.ice_decode.specs.Reads.{wire_point, count_points, at_pin, at_pin_of, cell_inputs, carry_inputs, driven_reads, depends_on, global_feed}
+use Rattle.ice_decode.specs.Points.{points}
 use Rattle.ice_decode.specs.Refusals.{IsFaultless}
 use Rattle.ice_decode.proofs.PointPlaces.{StandsAs, wire_at, point_cases, points_long}
 use Rattle.ice_decode.proofs.ReadPoints.{read_there}
@@ -237,6 +238,7 @@ module _ (parts : Parts) (bits : Bits) (extras : List (ℕ × ℕ × ℕ)) (read
         by : (b : Bool) → has_input_register parts bits pad ≡ b → IsGood m (if b then enabled_root parts bits bonded Taken pad else enabled_root parts bits bonded Input pad)
         by true e = taken_good m pad cell e heard
         by false e = input_good m pad e
+    driven_good m (RamOutput pad) Nothing cell heard below passed = (tt, tt)
     driven_good m (Global n) Nothing cell heard below passed = by (takes_pad parts extras n) refl passed
       where
         feed : (f : Option Point) → ((q : Point) → Has (present (f ∷ [])) q → IsGood m (root q)) → IsGood m (reading (Fixed false) root f)
@@ -264,6 +266,7 @@ module _ (parts : Parts) (bits : Bits) (extras : List (ℕ × ℕ × ℕ)) (read
     passed_heard w q (LookUp t i) Nothing lt e has = absurd (none-some q has.1)
     passed_heard w q (CarryOut t i) Nothing lt e has = absurd (none-some q has.1)
     passed_heard w q (PadInput pad) Nothing lt e has = absurd (none-some q has.1)
+    passed_heard w q (RamOutput pad) Nothing lt e has = absurd (none-some q has.1)
     passed_heard w q (Global n) Nothing lt e has = by (takes_pad parts extras n) has
       where
         at : (o : Option TileAt) → (f : Option Point) → at_pin_of parts o (codes "fabout") ≡ f → Has (present (f ∷ [])) q → IsHeard parts bits names q

@@ -1,5 +1,5 @@
 -- At each moment the level of a point is that of its root.
-use Rattle.std.proofs.Common.{◌≡◌, ℕ, ◌+◌, ◌*◌, ◌<◌, ◌==◌, ◌&&◌, zero, suc, Bool, true, false, Option, None, Some, List, [], ◌∷◌, map, get_or, slice_index_or, unwrap_or, is_some, if◌then◌else◌, refl, sym, ap, ◌∙◌, arith, rules, tests}
+use Rattle.std.proofs.Common.{◌≡◌, ℕ, ◌+◌, ◌*◌, ◌<◌, ◌≤◌, ◌==◌, ◌&&◌, zero, suc, Bool, true, false, Option, None, Some, List, [], ◌∷◌, map, get_or, slice_index_or, unwrap_or, is_some, if◌then◌else◌, refl, sym, ap, subst, ◌∙◌, arith, rules, tests}
 use Rattle.std.proofs.lemmas.Option.{same_Some}
 use Rattle.ice_base.specs.declared.number.TileAt.{TileAt}
 use Rattle.ice_base_values.specs.System.{System, value, present, reading}
@@ -17,7 +17,7 @@ use Rattle.ice_decode.specs.declared.point.Point.TheVariants.{Wire, Carry}
 use Rattle.ice_decode.specs.declared.driver.Driver.{Driver}
 use Rattle.ice_decode.specs.declared.driver.Driver.TheVariants.{Nothing, By, Several}
 use Rattle.ice_decode.specs.declared.role.Role.{Role}
-use Rattle.ice_decode.specs.declared.role.Role.TheVariants.{Plain, Output, LookUp, CarryOut, PadInput, Global, CarryIn, ClockEnable}
+use Rattle.ice_decode.specs.declared.role.Role.TheVariants.{Plain, Output, LookUp, CarryOut, PadInput, RamOutput, Global, CarryIn, ClockEnable}
 use Rattle.ice_decode.specs.Cells.{has_carry, has_flop, table_entry, looked_up}
 use Rattle.ice_decode.specs.Drivers.{driver, role_of}
 use Rattle.ice_decode.specs.Loops.{IsOrderOf}
@@ -28,7 +28,7 @@ use Rattle.ice_decode.specs.Reads.{count_points, driven_reads, reads_at, depends
 use Rattle.ice_decode.proofs.Valued.{valued, place_below}
 use Rattle.ice_back_laws.specs.Law.{root_level, AreQuiet, PointsHaveTheirRootsLevels}
 use Rattle.ice_back_laws.specs.Roots.{LevelRoot, Fixed, Input, Taken, Level, Table, Register, Sum, cell_table, table_root, carry_root, pad_number, bonded_root, enabled_root, fed_root, driven_passes, point_passes, driven_root, point_root, roots_of, root_of}
-use Rattle.ice_back_laws.proofs.PadNumbers.{number_at, level_at_number}
+use Rattle.ice_back_laws.proofs.PadNumbers.{number_at, level_at_number, number_within}
 use Rattle.ice_decode.proofs.RolePlaces.{IsOfCell, role_of_cell}
 
 -- ---- values meet their equations
@@ -46,6 +46,7 @@ among parts bits extras (Output t i) Nothing q has = absurd (nothing_there q has
 among parts bits extras (LookUp t i) Nothing q has = absurd (nothing_there q has)
 among parts bits extras (CarryOut t i) Nothing q has = absurd (nothing_there q has)
 among parts bits extras (PadInput pad) Nothing q has = absurd (nothing_there q has)
+among parts bits extras (RamOutput pad) Nothing q has = absurd (nothing_there q has)
 among parts bits extras (Global n) Nothing q has = has
 among parts bits extras (CarryIn t) Nothing q has = absurd (nothing_there q has)
 among parts bits extras ClockEnable Nothing q has = absurd (nothing_there q has)
@@ -163,6 +164,13 @@ module _ (parts : Parts) (bits : Bits) (extras : List (ℕ × ℕ × ℕ)) (R : 
         by true e = number (pad_number pad bonded) refl (λ f. quiet.quiet pad lt ((λ i. e i && is_some (f i))))
         by false e = quiet.quiet pad lt (ap (λ b. b && is_some (pad_number pad bonded)) e)
 
+    -- none of the pads is an output of a block RAM
+    ram_level : (pad : Pad) → 2 ≤ pad.pio → (o : Option ℕ) → pad_number pad bonded ≡ o → level_of bonded levels pad ≡ false
+    ram_level pad high None e = level_at_number bonded levels pad None e
+    ram_level pad high (Some k) e =
+        let low : pad.pio < 2 = subst (λ (p : Pad). p.pio < 2) (number_at pad bonded k e) (quiet.pads k (number_within pad bonded k e)) in
+        absurd (omega (arith, low, high))
+
     -- what drives a wire makes the level of the wire's root
     driven_level : (r : Role) (d : Driver) → IsOfCell parts r → ((q : Point) → Has (present (driven_reads parts bits extras r d)) q → (j : ℕ) × R j q) → ((q : Point) → Has (present (driven_passes parts bits extras r d)) q → HasRootLevel q)
         → driven_makes parts bits extras bonded levels kept r d (map (reading false own) (driven_reads parts bits extras r d))
@@ -182,6 +190,7 @@ module _ (parts : Parts) (bits : Bits) (extras : List (ℕ × ℕ × ℕ)) (R : 
             ≡ root_level parts bits bonded own levels kept (if b then enabled_root parts bits bonded Taken pad else enabled_root parts bits bonded Input pad)
         by true = taken_level pad cell.pio
         by false = given_level Input (λ k. refl) pad
+    driven_level (RamOutput pad) Nothing cell ordered passed = ram_level pad cell (pad_number pad bonded) refl
     driven_level (Global n) Nothing cell ordered passed = by (takes_pad parts extras n) passed
       where
         fed : (o : Option Pad) → global_gives parts bits bonded levels o ≡ root_level parts bits bonded own levels kept (fed_root parts bits bonded o)

@@ -13,12 +13,12 @@ use Rattle.ice_decode.specs.declared.driver.Driver.TheVariants.{Nothing, By, Sev
 use Rattle.ice_decode.specs.declared.point.Point.{Point}
 use Rattle.ice_decode.specs.declared.point.Point.TheVariants.{Wire, Carry}
 use Rattle.ice_decode.specs.declared.role.Role.{Role}
-use Rattle.ice_decode.specs.declared.role.Role.TheVariants.{Plain, Output, LookUp, CarryOut, PadInput, Global, CarryIn, ClockEnable}
+use Rattle.ice_decode.specs.declared.role.Role.TheVariants.{Plain, Output, LookUp, CarryOut, PadInput, RamOutput, Global, CarryIn, ClockEnable}
 use Rattle.ice_decode.specs.Cells.{logic_tiles}
 use Rattle.ice_decode.specs.Drivers.{driver, role_of}
 use Rattle.ice_decode.specs.Meaning.{passes}
 use Rattle.ice_decode.specs.Pads.{is_enabled, has_input_register}
-use Rattle.ice_decode.specs.Reads.{points}
+use Rattle.ice_decode.specs.Points.{points}
 use Rattle.ice_decode.specs.Refusals.{IsFaultless}
 use Rattle.ice_decode.proofs.PointPlaces.{StandsAs, wire_at, point_cases}
 use Rattle.ice_decode.proofs.Switches.{driver_between}
@@ -72,6 +72,7 @@ module _ (parts : Parts) (bits : Bits) (extras : List (ℕ × ℕ × ℕ)) (read
   heard_or_pad (LookUp t i) = inl tt
   heard_or_pad (CarryOut t i) = inl tt
   heard_or_pad (PadInput pad) = inr (pad, refl)
+  heard_or_pad (RamOutput pad) = inl tt
   heard_or_pad (Global n) = inl tt
   heard_or_pad (CarryIn t) = inl tt
   heard_or_pad ClockEnable = inl tt

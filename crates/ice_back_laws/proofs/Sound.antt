@@ -375,7 +375,7 @@ sound parts bits extras package_rows read names faultless has =
     record {
       driven = is.driven;
       driven_once = none_twice parts bits extras package_rows read;
-      loopless = loopless parts bits extras package_rows read names faultless;
+      loopless = loopless parts bits extras package_rows read names faultless has;
       pads_apart = none_shared parts bits extras package_rows;
       pin_types = all_typed parts bits extras read names faultless package_rows has;
       pins_at_ports = is.pins_at_ports;

@@ -34,6 +34,7 @@ use Rattle.ice_net.specs.NetlistData.{NetlistData}
 use Rattle.ice_decode.specs.declared.point.Point.{Point}
 use Rattle.ice_decode.specs.Cells.{tile_place, cells, reset_of}
 use Rattle.ice_decode.specs.Meaning as chip
+use Rattle.ice_decode.proofs.PadDrives.{low_drive}
 use Rattle.ice_decode.specs.Meaning.{point_level, table_level, clock_level, flop_after, register_after, store_after, clock_after, drive_at}
 use Rattle.ice_decode.specs.Pads.{io_tiles, is_enabled, level_of, pad_gives, pin_type, pin_level, part_drive, Store, CellStore, InputStore, OutputStore, stores, input_kept, output_kept, has_input_register, has_output_register}
 use Rattle.ice_decode.specs.Reads.{at_pin, cell_inputs}
@@ -169,7 +170,7 @@ module _ (parts : Parts) (bits : Bits) (extras : List (ℕ × ℕ × ℕ)) (read
         → At t.kept (length (cells parts) + (4 * k + 2 * pad.pio)) false × ((c : Option Bool) × At t.clocks (length (cells parts) + (4 * k + 2 * pad.pio)) c)
 
   are_quiet : (s t : State) → Alike s t → AreQuiet parts bits pads t.kept
-  are_quiet s t alike = record { quiet = λ pad lt none. by pad lt none (tile_place pad.tile (io_tiles parts)) refl }
+  are_quiet s t alike = record { quiet = λ pad lt none. by pad lt none (tile_place pad.tile (io_tiles parts)) refl; pads = pio }
     where
       by : (pad : Pad) → pad.pio < 2 → has_level parts bits pads pad ≡ false → (o : Option ℕ) → tile_place pad.tile (io_tiles parts) ≡ o → input_kept parts t.kept pad ≡ false
       by pad lt none None e =
@@ -330,6 +331,7 @@ module _ (parts : Parts) (bits : Bits) (extras : List (ℕ × ℕ × ℕ)) (read
         ∙ ap (buffer_drive now) found.2
         ∙ (λ j. pad_drive (buffer_type parts bits (pad_at pads k)) (given j) (enable j))
         ∙ drives_alike (pin_type parts bits (pad_at pads k) / 4) _ _ (output_kept parts t.kept (pad_at pads k))
+        ∙ sym (low_drive parts bits t.kept own (pad_at pads k) (pio k lt))
         ∙ ap (drive_at parts bits t.kept own) (get_or_from_slice_get pads k pad no_pad at)
 
     drives_now : map (port_drive n.cells now) n.ports ≡ map (drive_at parts bits t.kept own) pads

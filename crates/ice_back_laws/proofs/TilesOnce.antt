@@ -11,8 +11,7 @@ use Rattle.ice_base.proofs.Keys.{tile_self}
 use Rattle.ice_base_values.specs.Order.{At, StandOnce}
 use Rattle.ice_chip.specs.Database.{Parts, same_tile}
 use Rattle.ice_chip.specs.IsRead.{IsRead}
-use Rattle.ice_decode.specs.Cells.{is_logic_tile, logic_tiles}
-use Rattle.ice_decode.specs.Meaning.{tile_place}
+use Rattle.ice_decode.specs.Cells.{is_logic_tile, logic_tiles, tile_place}
 use Rattle.ice_decode.proofs.KeptLevels.{tile_at}
 use Rattle.ice_back_laws.proofs.Ranks.{place_found}
 

@@ -1,5 +1,5 @@
 -- What bits show, their netlist shows.
-use Rattle.std.specs.Prelude.{◌≡◌, ℕ, ◌<◌, ◌&&◌, Bool, false, List, None, is_some, slice_index_or}
+use Rattle.std.specs.Prelude.{◌≡◌, ℕ, ◌<◌, ◌&&◌, Bool, false, List, length, None, is_some, slice_index_or}
 use Rattle.ice_chip.specs.Database.{Parts, PackageRows}
 use Rattle.ice_chip.specs.IsRead.{IsChip}
 use Rattle.ice_bits.specs.Configuration.{Bits}
@@ -12,7 +12,7 @@ use Rattle.ice_decode.specs.declared.point.Point.{Point}
 use Rattle.ice_decode.specs.declared.point.Point.TheVariants.{Carry}
 use Rattle.ice_decode.specs.Loops.{IsOrderOf}
 use Rattle.ice_decode.specs.Pads.{is_enabled, kept_at, input_kept, output_kept}
-use Rattle.ice_decode.specs.Reads.{points}
+use Rattle.ice_decode.specs.Points.{points}
 use Rattle.ice_net.specs.NetlistData.{NetlistData}
 use Rattle.ice_check.specs.Faults.{undriven, pin_not_port, inout_bare}
 use Rattle.ice_check.specs.Loops.{HasNoLoop}
@@ -63,9 +63,11 @@ root_level parts bits bonded v levels kept (Sum t i) = v (Carry t i)
 abbrev pub has_level : Parts → Bits → List Pad → Pad → Bool
 has_level parts bits bonded pad = is_enabled parts bits pad && is_some (pad_number pad bonded)
 
--- a register that takes what a pad without such a level gives keeps 0, as it does from the start on
+-- a register that takes what a pad without such a level gives keeps 0, as it does from the start on; and the pads are those of IO tiles,
+-- so that none of them is a pin of a block RAM
 pub record AreQuiet (parts : Parts) (bits : Bits) (bonded : List Pad) (kept : List Bool) : Type 0 where
   pub quiet : (pad : Pad) → pad.pio < 2 → has_level parts bits bonded pad ≡ false → input_kept parts kept pad ≡ false
+  pub pads : (k : ℕ) → k < length bonded → (pad_at bonded k).pio < 2
 
 -- at each moment of a run the level of a point is that of its root
 abbrev pub PointsHaveTheirRootsLevels : Type 0

@@ -19,7 +19,7 @@ use Rattle.ice_decode.specs.declared.point.Point.TheVariants.{Wire, Carry}
 use Rattle.ice_decode.specs.declared.driver.Driver.{Driver}
 use Rattle.ice_decode.specs.declared.driver.Driver.TheVariants.{Nothing, By, Several}
 use Rattle.ice_decode.specs.declared.role.Role.{Role}
-use Rattle.ice_decode.specs.declared.role.Role.TheVariants.{Plain, Output, LookUp, CarryOut, PadInput, Global, CarryIn, ClockEnable}
+use Rattle.ice_decode.specs.declared.role.Role.TheVariants.{Plain, Output, LookUp, CarryOut, PadInput, RamOutput, Global, CarryIn, ClockEnable}
 use Rattle.ice_decode.specs.Cells.{logic_tiles, tile_place, has_carry, has_flop, table_entry}
 use Rattle.ice_decode.specs.Direct.{globals, takes_pad}
 use Rattle.ice_decode.specs.Drivers.{driver, role_of}
@@ -114,6 +114,7 @@ role_passes parts extras (Output t i) = []
 role_passes parts extras (LookUp t i) = []
 role_passes parts extras (CarryOut t i) = []
 role_passes parts extras (PadInput pad) = []
+role_passes parts extras (RamOutput pad) = []
 role_passes parts extras (Global n) = if takes_pad parts extras n then [] else global_feed parts n ∷ []
 role_passes parts extras (CarryIn t) = []
 role_passes parts extras ClockEnable = []
@@ -139,6 +140,7 @@ role_root parts bits extras bonded (Output t i) from = if has_flop parts bits t 
 role_root parts bits extras bonded (LookUp t i) from = table_root parts bits t i
 role_root parts bits extras bonded (CarryOut t i) from = carry_root parts bits t i
 role_root parts bits extras bonded (PadInput pad) from = pad_root parts bits bonded pad
+role_root parts bits extras bonded (RamOutput pad) from = Fixed false
 role_root parts bits extras bonded (Global n) from = if takes_pad parts extras n then fed_root parts bits bonded (gbufpin_of parts n) else first_root from
 role_root parts bits extras bonded (CarryIn t) from = Fixed (set_at parts bits t (codes "CarryInSet") 0)
 role_root parts bits extras bonded ClockEnable from = Fixed true

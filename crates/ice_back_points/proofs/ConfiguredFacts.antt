@@ -15,11 +15,10 @@ use Rattle.ice_chip.specs.Lookups.{wire_named}
 use Rattle.ice_bits.specs.Configuration.{Bits, bits_of}
 use Rattle.ice_decode.specs.declared.point.Point.{Point}
 use Rattle.ice_decode.specs.declared.point.Point.TheVariants.{Carry}
-use Rattle.ice_decode.specs.Cells.{logic_tiles}
+use Rattle.ice_decode.specs.Cells.{logic_tiles, tile_place}
 use Rattle.ice_decode.specs.Loops.{IsOrderOf}
-use Rattle.ice_decode.specs.Meaning.{tile_place}
-use Rattle.ice_decode.specs.Points.{HasWire}
-use Rattle.ice_decode.specs.Reads.{wire_point, points}
+use Rattle.ice_decode.specs.Points.{HasWire, points}
+use Rattle.ice_decode.specs.Reads.{wire_point}
 use Rattle.ice_decode.proofs.KeptLevels.{tile_at}
 use Rattle.ice_decode.proofs.PointPlaces.{wire_at, carry_at}
 use Rattle.ice_back_laws.specs.Roots.{StandsAt, IsNumbered, carry_root, root_of}

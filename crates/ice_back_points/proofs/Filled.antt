@@ -17,7 +17,7 @@ use Rattle.ice_decode.specs.declared.driver.Driver.TheVariants.{Nothing, By, Sev
 use Rattle.ice_decode.specs.declared.point.Point.{Point}
 use Rattle.ice_decode.specs.declared.point.Point.TheVariants.{Wire, Carry}
 use Rattle.ice_decode.specs.declared.role.Role.{Role}
-use Rattle.ice_decode.specs.declared.role.Role.TheVariants.{Plain, Output, LookUp, CarryOut, PadInput, Global, CarryIn, ClockEnable}
+use Rattle.ice_decode.specs.declared.role.Role.TheVariants.{Plain, Output, LookUp, CarryOut, PadInput, RamOutput, Global, CarryIn, ClockEnable}
 use Rattle.ice_decode.specs.Cells.{logic_tiles}
 use Rattle.ice_decode.specs.Direct.{takes_pad}
 use Rattle.ice_decode.specs.Drivers.{driver, role_of}
@@ -48,6 +48,7 @@ wire_root_is parts bits extras bonded roots (Output t i) Nothing = refl
 wire_root_is parts bits extras bonded roots (LookUp t i) Nothing = refl
 wire_root_is parts bits extras bonded roots (CarryOut t i) Nothing = refl
 wire_root_is parts bits extras bonded roots (PadInput pad) Nothing = refl
+wire_root_is parts bits extras bonded roots (RamOutput pad) Nothing = refl
 wire_root_is parts bits extras bonded roots (Global n) Nothing = by (takes_pad parts extras n)
   where
     from : Option Point → LevelRoot

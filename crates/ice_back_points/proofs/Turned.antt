@@ -6,7 +6,7 @@ use Rattle.ice_base_values.proofs.ListPlaces.{position_cons}
 use Rattle.ice_chip.specs.Database.{same_tile, same_pad}
 use Rattle.ice_chip.proofs.Keys.{tile_turned, pad_turned}
 use Rattle.ice_chip.specs.declared.rows.Pad.{Pad}
-use Rattle.ice_decode.specs.Meaning.{tile_place}
+use Rattle.ice_decode.specs.Cells.{tile_place}
 use Rattle.ice_back_laws.specs.declared.root.LevelRoot.{LevelRoot}
 use Rattle.ice_back_laws.specs.declared.root.LevelRoot.TheVariants.{Fixed}
 use Rattle.ice_back_laws.specs.Roots.{pad_number, bonded_root}

@@ -11,7 +11,7 @@ use Rattle.ice_decode.specs.declared.driver.Driver.TheVariants.{Nothing, By, Sev
 use Rattle.ice_decode.specs.declared.point.Point.{Point}
 use Rattle.ice_decode.specs.declared.point.Point.TheVariants.{Wire, Carry}
 use Rattle.ice_decode.specs.declared.role.Role.{Role}
-use Rattle.ice_decode.specs.declared.role.Role.TheVariants.{Plain, Output, LookUp, CarryOut, PadInput, Global, CarryIn, ClockEnable}
+use Rattle.ice_decode.specs.declared.role.Role.TheVariants.{Plain, Output, LookUp, CarryOut, PadInput, RamOutput, Global, CarryIn, ClockEnable}
 use Rattle.ice_decode.specs.Cells.{has_flop}
 use Rattle.ice_decode.specs.Direct.{takes_pad}
 use Rattle.ice_decode.specs.Drivers.{driver, role_of}
@@ -37,6 +37,7 @@ own_root parts bits extras bonded roots (Output t i) = if has_flop parts bits t 
 own_root parts bits extras bonded roots (LookUp t i) = table_root parts bits t i
 own_root parts bits extras bonded roots (CarryOut t i) = carry_root parts bits t i
 own_root parts bits extras bonded roots (PadInput pad) = pad_root parts bits bonded pad
+own_root parts bits extras bonded roots (RamOutput pad) = Fixed false
 own_root parts bits extras bonded roots (Global n) = either_root parts bits bonded roots n (takes_pad parts extras n)
 own_root parts bits extras bonded roots (CarryIn t) = Fixed (set_at parts bits t (codes "CarryInSet") 0)
 own_root parts bits extras bonded roots ClockEnable = Fixed true

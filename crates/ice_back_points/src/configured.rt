@@ -3,8 +3,7 @@ ghost use Rattle.std.specs.Prelude.{◌≡◌, ◌<◌, ◌≤◌, ◌^◌, ◌+
 ghost use Rattle.ice_base_values.specs.Order.{Has};
 ghost use Rattle.ice_chip.specs.Views.{package_view};
 ghost use Rattle.ice_bits.specs.Configuration.{bits_of};
-ghost use Rattle.ice_decode.specs.Cells.{logic_tiles};
-ghost use Rattle.ice_decode.specs.Meaning.{tile_place};
+ghost use Rattle.ice_decode.specs.Cells.{logic_tiles, tile_place};
 ghost use Rattle.ice_decode.specs.Refusals.{IsCircuitOf};
 ghost use Rattle.ice_decode.specs.declared.point.Point.TheVariants.{Wire, Carry};
 ghost use Rattle.ice_back_laws.specs.Back.{reader, pin_reader};

@@ -270,6 +270,7 @@ pub(crate) fn role_root(
         Role::LookUp { tile, cell } => table_root(chip, bits, tile, cell),
         Role::CarryOut { tile, cell } => carry_root(chip, bits, tile, cell),
         Role::PadInput(pad) => pad_root(chip, bits, pads, pad),
+        Role::RamOutput(_) => LevelRoot::Fixed(false),
         Role::Global(global) => global_root(chip, circuit, pads, roots, global),
         Role::CarryIn(tile) => LevelRoot::Fixed(setting(chip, bits, tile, b"CarryInSet", 0)),
         Role::ClockEnable => LevelRoot::Fixed(true),

@@ -1,5 +1,6 @@
 pub mod System
 pub mod Simulations
+pub mod Members
 pub mod Order
 pub mod Graph
 pub mod Search

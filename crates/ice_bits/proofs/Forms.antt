@@ -1,6 +1,7 @@
 -- Bits of a chip have the form that the chip's tiles have.
 use Rattle.std.proofs.Common.{◌≡◌, ℕ, ◌<◌, Bool, true, false, cond, Some, option_map, List, [], ◌∷◌, length, get_or, replicate, map, refl, sym, ap, ◌∙◌, subst, arith, rules, tests}
 use Rattle.std.specs.Prelude.{◌&&◌, nat_lt}
+use Rattle.std.specs.List.{IsDistinct}
 use Rattle.std.specs.Map.{lookup}
 use Rattle.std.specs.Option.{option_map_or}
 use Rattle.std.proofs.lemmas.List.{length-replicate, get_or-replicate}
@@ -10,7 +11,7 @@ use Rattle.ice_base.specs.declared.bit.BitAt.{BitAt}
 use Rattle.ice_chip.specs.Database.{Parts, same_tile, columns, tile_known}
 use Rattle.ice_chip.specs.declared.rows.TileLine.{TileLine}
 use Rattle.ice_bits.specs.Configuration.{Configuration}
-use Rattle.ice_bits.specs.Grids.{is_in, is_there, is_bit_of, IsGrid, AreGrids, IsOf, blank_rows, blank_tile, blank}
+use Rattle.ice_bits.specs.Grids.{AreContents, is_in, is_there, is_bit_of, IsGrid, AreGrids, IsOf, blank_rows, blank_tile, blank}
 use Rattle.ice_bits.specs.Rewriting.{tiles_with, with_rows}
 
 -- ---- bits that are all 0
@@ -25,8 +26,12 @@ blank_grids : (tiles : List (TileAt × TileLine)) → AreGrids tiles (map blank_
 blank_grids [] = tt
 blank_grids (tile ∷ tiles) = (refl, blank_grid (columns tile.1.kind), blank_grids tiles)
 
+pub no_contents : (parts : Parts) → AreContents parts []
+unfolding IsDistinct
+no_contents parts = record { each = tt; once = tt }
+
 pub blank_is_of : (parts : Parts) → IsOf parts (blank parts)
-blank_is_of parts = record { grids = blank_grids parts.tiles; kinds = refl }
+blank_is_of parts = record { grids = blank_grids parts.tiles; kinds = refl; contents = no_contents parts }
 
 -- ---- the places of the bits
 places_of_grid : (width : ℕ) (rows : List (List Bool)) (b : BitAt) → IsGrid width rows → is_in rows b ≡ (nat_lt b.row 16 && nat_lt b.col width)
@@ -78,4 +83,4 @@ grids_with (tile ∷ tiles) (grid ∷ grids) t rows known are at is = by (same_t
 
 pub with_rows_is_of : (parts : Parts) (k : Configuration) (t : TileAt) (rows : List (List Bool)) (known : TileLine) → IsOf parts k → tile_known parts.tiles t ≡ Some known
     → IsGrid (columns known.kind) rows → IsOf parts (with_rows t rows k)
-with_rows_is_of parts k t rows known of at is = record { grids = grids_with parts.tiles k.tiles t rows known of.grids at is; kinds = of.kinds }
+with_rows_is_of parts k t rows known of at is = record { grids = grids_with parts.tiles k.tiles t rows known of.grids at is; kinds = of.kinds; contents = of.contents }

@@ -40,6 +40,7 @@ nowhere_rewrites k t f at value none = record {
   places = λ u b. refl;
   kinds = λ u. refl;
   extras = refl;
+  contents = refl;
   form = λ parts is. is;
 }
 

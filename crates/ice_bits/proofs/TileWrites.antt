@@ -105,8 +105,8 @@ pub written_at : (t : TileAt) (change : Rows → Rows) (es : Tiles) (i : ℕ) (e
 written_at t change es i e rows at is wrote =
     ap (λ (new : Rows). set es i (e.0, new)) wrote ∙ ap (λ (x : TileAt × Rows). set es i (x.0, change x.1)) is ∙ sym (place_change t change es i e at)
 
-abbrev pub of_tiles : Tiles → List TileKind → List (ℕ × ℕ × ℕ) → Configuration
-of_tiles tiles kinds extras = record { tiles = tiles; kinds = kinds; extras = extras }
+abbrev pub of_tiles : Tiles → List TileKind → List (ℕ × ℕ × ℕ) → Tiles → Configuration
+of_tiles tiles kinds extras contents = record { tiles = tiles; kinds = kinds; extras = extras; contents = contents }
 
 pub nothing_changes : (t : TileAt) (change : Rows → Rows) (es : Tiles) → place_in t es ≡ None → tiles_with t change es ≡ es
 nothing_changes t change [] at = refl
@@ -213,7 +213,8 @@ place_rewrites k t p v = record {
   places = places_stay k t p v;
   kinds = kinds_stay k t p v;
   extras = refl;
-  form = λ parts is. record { grids = grids_stay t p v parts.tiles k.tiles is.grids; kinds = is.kinds };
+  contents = refl;
+  form = λ parts is. record { grids = grids_stay t p v parts.tiles k.tiles is.grids; kinds = is.kinds; contents = is.contents };
 }
 
 -- a bit that is there
@@ -223,6 +224,7 @@ bit_rewrites k t p v there = record {
   places = places_stay k t p v;
   kinds = kinds_stay k t p v;
   extras = refl;
+  contents = refl;
   form = (place_rewrites k t p v).form;
 }
   where
@@ -246,6 +248,7 @@ as_it_is k = record {
   places = λ u b. refl;
   kinds = λ u. refl;
   extras = refl;
+  contents = refl;
   form = λ parts is. is;
 }
   where
@@ -268,7 +271,7 @@ pub places_nowhere : (t : TileAt) (ps : List BitAt) (vs : List Bool) (k : Config
 places_nowhere t [] vs k none = refl
 places_nowhere t (p ∷ ps) [] k none = refl
 places_nowhere t (p ∷ ps) (v ∷ vs) k none =
-    let same : k ≡ with_place t p v k = ap (λ (ts : Tiles). of_tiles ts k.kinds k.extras) (sym (nothing_changes t (rows_with p v) k.tiles none)) in
+    let same : k ≡ with_place t p v k = ap (λ (ts : Tiles). of_tiles ts k.kinds k.extras k.contents) (sym (nothing_changes t (rows_with p v) k.tiles none)) in
     places_nowhere t ps vs k none ∙ ap (with_places t ps vs) same
 
 pub never_there : (k : Configuration) (t : TileAt) (p : BitAt) → place_in t k.tiles ≡ None → is_there k t p ≡ false
@@ -285,6 +288,7 @@ places_rewrite t (p ∷ ps) (v ∷ vs) k =
       places = λ u b. later.places u b ∙ first.places u b;
       kinds = λ u. later.kinds u ∙ first.kinds u;
       extras = later.extras;
+      contents = later.contents;
       form = λ parts is. later.form parts (first.form parts is);
     }
   where
@@ -349,12 +353,13 @@ copied_more tiles i e done rows lt at so_far is =
     ap (λ (ts : Tiles). ts ++ (e.0, rows) ∷ []) so_far ∙ ap (λ (rs : Rows). take i tiles ++ (e.0, rs) ∷ []) is
     ∙ ap (λ (x : TileAt × Rows). take i tiles ++ x ∷ []) at ∙ sym (take_more tiles i e lt)
 
-pub blank_all : (parts : Parts) (grids : Tiles) (kinds : List TileKind) (extras : List (ℕ × ℕ × ℕ)) → grids ≡ map blank_at (map tile_of parts.tiles)
-    → kinds ≡ map kind_of (map tile_of parts.tiles) → extras ≡ [] → of_tiles grids kinds extras ≡ blank parts
-blank_all parts grids kinds extras grids_are kinds_are none =
-    ap (λ (ts : Tiles). of_tiles ts kinds extras) (grids_are ∙ fused parts.tiles)
-    ∙ ap (λ (ks : List TileKind). of_tiles (map blank_tile parts.tiles) ks extras) (kinds_are ∙ kinds_fused parts.tiles)
-    ∙ ap (of_tiles (map blank_tile parts.tiles) (map kind_of_tile parts.tiles)) none
+pub blank_all : (parts : Parts) (grids : Tiles) (kinds : List TileKind) (extras : List (ℕ × ℕ × ℕ)) (contents : Tiles) → grids ≡ map blank_at (map tile_of parts.tiles)
+    → kinds ≡ map kind_of (map tile_of parts.tiles) → extras ≡ [] → contents ≡ [] → of_tiles grids kinds extras contents ≡ blank parts
+blank_all parts grids kinds extras contents grids_are kinds_are none empty =
+    ap (λ (ts : Tiles). of_tiles ts kinds extras contents) (grids_are ∙ fused parts.tiles)
+    ∙ ap (λ (ks : List TileKind). of_tiles (map blank_tile parts.tiles) ks extras contents) (kinds_are ∙ kinds_fused parts.tiles)
+    ∙ ap (λ (es : List (ℕ × ℕ × ℕ)). of_tiles (map blank_tile parts.tiles) (map kind_of_tile parts.tiles) es contents) none
+    ∙ ap (of_tiles (map blank_tile parts.tiles) (map kind_of_tile parts.tiles) []) empty
   where
     fused : (ts : List (TileAt × TileLine)) → map blank_at (map tile_of ts) ≡ map blank_tile ts
     fused [] = refl

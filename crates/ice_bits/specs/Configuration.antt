@@ -11,11 +11,13 @@ use Rattle.ice_chip.specs.declared.rows.TileKind.{TileKind}
 abbrev pub Bits : Type 0
 Bits = TileAt → BitAt → Bool
 
--- the rows of bits of each tile, the kinds of these tiles in the same order, and the extra bits in order
+-- the rows of bits of each tile, the kinds of these tiles in the same order, the extra bits in order, and the words that block RAMs hold
+-- before the first step, in order: each RAM by its lower tile, each word with its lowest bit first
 pub record Configuration : Type 0 where
   pub tiles : List (TileAt × List (List Bool))
   pub kinds : List TileKind
   pub extras : List (ℕ × ℕ × ℕ)
+  pub contents : List (TileAt × List (List Bool))
 
 -- ---- one bit
 -- the bit at a place of a tile with these rows; 0 where the tile has no such place

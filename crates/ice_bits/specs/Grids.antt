@@ -1,13 +1,16 @@
--- The form of the bits of a chip: as many rows and columns as each tile has, and the kinds of the tiles.
-use Rattle.std.specs.Prelude.{◌≡◌, ℕ, ◌&&◌, Bool, false, Option, None, Some, List, [], ◌∷◌, length, map, replicate, All, slice_get, slice_index_or, nat_lt}
+-- The form of the bits of a chip: as many rows and columns as each tile has, the kinds of the tiles, and words of its block RAMs.
+use Rattle.std.specs.Prelude.{◌≡◌, ℕ, ◌&&◌, Bool, true, false, Option, None, Some, List, [], ◌∷◌, length, map, replicate, All, is_some, slice_get, slice_index_or, nat_lt}
+use Rattle.std.specs.List.{AllByRecursion, IsDistinct}
+use Rattle.std.specs.Map.{keys_of}
 use Rattle.std.specs.Option.{option_map_or, option_and_then}
 use Rattle.ice_base.specs.declared.number.TileAt.{TileAt}
 use Rattle.ice_base.specs.declared.bit.BitAt.{BitAt}
-use Rattle.ice_chip.specs.Database.{Parts, columns}
+use Rattle.ice_chip.specs.Database.{Parts, columns, same_tile}
 use Rattle.ice_chip.specs.Functions.{same_kind}
 use Rattle.ice_chip.specs.Lookups.{kind_at}
 use Rattle.ice_chip.specs.declared.rows.TileLine.{TileLine}
 use Rattle.ice_chip.specs.declared.rows.TileKind.{TileKind}
+use Rattle.ice_chip_rams.specs.Sites.{site_at}
 use Rattle.ice_bits.specs.TilePlaces.{place_in}
 use Rattle.ice_bits.specs.Configuration.{Configuration, rows_at}
 
@@ -37,10 +40,26 @@ AreGrids (tile ∷ tiles) (grid ∷ grids) = (grid.0 ≡ tile.0) × IsGrid (colu
 abbrev pub kind_of_tile : TileAt × TileLine → TileKind
 kind_of_tile tile = tile.1.kind
 
+-- 256 words of sixteen bits
+pub record AreWords (words : List (List Bool)) : Type 0 where
+  pub many : length words ≡ 256
+  pub wide : All (λ word. length word ≡ 16) words
+
+-- the chip has a block RAM there, which holds such words
+pub record IsContent (parts : Parts) (content : TileAt × List (List Bool)) : Type 0 where
+  pub site : is_some (site_at parts content.0) ≡ true
+  pub words : AreWords content.1
+
+-- the contents of block RAMs of the chip, each once
+pub record AreContents (parts : Parts) (contents : List (TileAt × List (List Bool))) : Type 0 where
+  pub each : AllByRecursion (IsContent parts) contents
+  pub once : IsDistinct same_tile (keys_of contents)
+
 -- the bits are bits of this chip
 pub record IsOf (parts : Parts) (k : Configuration) : Type 0 where
   pub grids : AreGrids parts.tiles k.tiles
   pub kinds : k.kinds ≡ map kind_of_tile parts.tiles
+  pub contents : AreContents parts k.contents
 
 -- a tile's bits, all 0
 abbrev pub blank_rows : ℕ → List (List Bool)
@@ -49,9 +68,9 @@ blank_rows width = replicate 16 (replicate width false)
 abbrev pub blank_tile : TileAt × TileLine → TileAt × List (List Bool)
 blank_tile tile = (tile.0, blank_rows (columns tile.1.kind))
 
--- the bits of a chip, all 0, and no extra bits
+-- the bits of a chip, all 0, no extra bits, and no contents
 abbrev pub blank : Parts → Configuration
-blank parts = record { tiles = map blank_tile parts.tiles; kinds = map kind_of_tile parts.tiles; extras = [] }
+blank parts = record { tiles = map blank_tile parts.tiles; kinds = map kind_of_tile parts.tiles; extras = []; contents = [] }
 
 -- the place is one of the tile's
 abbrev pub is_in : List (List Bool) → BitAt → Bool

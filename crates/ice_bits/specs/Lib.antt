@@ -9,4 +9,5 @@ pub mod TilePlaces
 pub mod GridPlaces
 pub mod TileRows
 pub mod TileForms
+pub mod ContentViews
 pub mod Views

@@ -14,13 +14,14 @@ use Rattle.ice_bits.specs.Written.{with_bits}
 abbrev pub where_there : Configuration → Bits → Bits
 where_there k bits t b = if is_there k t b then bits t b else false
 
--- The new configuration has these bits. It has the places, the kinds of tiles and the extra bits of the old one, and the bits
--- of a chip are still bits of that chip.
+-- The new configuration has these bits. It has the places, the kinds of tiles, the extra bits and the contents of the old one, and the
+-- bits of a chip are still bits of that chip.
 pub record Rewrites (old new : Configuration) (wanted : Bits) : Type 0 where
   pub bits : (t : TileAt) (b : BitAt) → bits_of new t b ≡ wanted t b
   pub places : (t : TileAt) (b : BitAt) → is_there new t b ≡ is_there old t b
   pub kinds : (t : TileAt) → kind_in new t ≡ kind_in old t
   pub extras : new.extras ≡ old.extras
+  pub contents : new.contents ≡ old.contents
   pub form : (parts : Parts) → IsOf parts old → IsOf parts new
 
 -- the bits with the values of a switch row in its group's bits; of a number that no row has, as they were
@@ -39,11 +40,11 @@ tiles_with t change (e ∷ es) = if same_tile t e.0 then (e.0, change e.1) ∷ e
 
 -- the configuration with other rows of a tile
 abbrev pub with_rows : TileAt → List (List Bool) → Configuration → Configuration
-with_rows t rows k = record { tiles = tiles_with t (λ _. rows) k.tiles; kinds = k.kinds; extras = k.extras }
+with_rows t rows k = record { tiles = tiles_with t (λ _. rows) k.tiles; kinds = k.kinds; extras = k.extras; contents = k.contents }
 
 -- the configuration with one bit written, where it has a place for it
 abbrev pub with_place : TileAt → BitAt → Bool → Configuration → Configuration
-with_place t b value k = record { tiles = tiles_with t (rows_with b value) k.tiles; kinds = k.kinds; extras = k.extras }
+with_place t b value k = record { tiles = tiles_with t (rows_with b value) k.tiles; kinds = k.kinds; extras = k.extras; contents = k.contents }
 
 -- the configuration with several bits of a tile written, one after another
 abbrev pub with_places : TileAt → List BitAt → List Bool → Configuration → Configuration
@@ -53,4 +54,8 @@ with_places t (b ∷ places) (value ∷ values) k = with_places t places values 
 
 -- the configuration with one extra bit more
 abbrev pub with_extra : ℕ × ℕ × ℕ → Configuration → Configuration
-with_extra extra k = record { tiles = k.tiles; kinds = k.kinds; extras = k.extras ++ extra ∷ [] }
+with_extra extra k = record { tiles = k.tiles; kinds = k.kinds; extras = k.extras ++ extra ∷ []; contents = k.contents }
+
+-- the configuration with the contents of one block RAM more
+abbrev pub with_content : TileAt → List (List Bool) → Configuration → Configuration
+with_content t words k = record { tiles = k.tiles; kinds = k.kinds; extras = k.extras; contents = k.contents ++ (t, words) ∷ [] }

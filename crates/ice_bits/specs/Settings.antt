@@ -1,5 +1,5 @@
 -- What the bits of a tile set: functions, by the names of its kind's functions, and rows of switches.
-use Rattle.std.specs.Prelude.{ℕ, Bool, false, Option, None, Some, List, slice_get, ◌+◌, [], ◌∷◌, map, filter_map, if◌then◌else◌}
+use Rattle.std.specs.Prelude.{ℕ, Bool, false, Option, None, Some, List, slice_get, ◌+◌, [], ◌∷◌, map, if◌then◌else◌}
 use Rattle.std.specs.Option.{option_map_or, option_and_then}
 use Rattle.ice_base.specs.declared.number.TileAt.{TileAt}
 use Rattle.ice_base.specs.declared.bit.BitAt.{BitAt}
@@ -32,7 +32,3 @@ number_with values n (r ∷ rows) = if pointwise beq r.values values then Some n
 -- and no earlier row of the group has the same values.
 abbrev pub row_on : Bits → SwitchGroup → Option ℕ
 row_on bits g = if list_any (λ v. v) (values_of bits g) then number_with (values_of bits g) g.first g.rows else None
-
--- the numbers of the rows of these groups that are on
-abbrev pub rows_on : Bits → List SwitchGroup → List ℕ
-rows_on bits groups = filter_map (row_on bits) groups

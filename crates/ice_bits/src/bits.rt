@@ -6,20 +6,23 @@ ghost use Rattle.ice_chip.specs.Listings.{rows_of};
 ghost use Rattle.ice_bits.specs.Configuration.{Configuration, bits_of, rows_at};
 ghost use Rattle.ice_bits.specs.Grids.{kind_in, is_of_kind, is_there, blank, IsOf};
 ghost use Rattle.ice_bits.specs.Written.{with_bit};
-ghost use Rattle.ice_bits.specs.Rewriting.{where_there, Rewrites, with_row, with_rows, with_place, with_places, with_extra};
+ghost use Rattle.ice_bits.specs.Rewriting.{where_there, Rewrites, with_row, with_rows, with_place, with_places, with_extra, with_content};
+ghost use Rattle.ice_bits.specs.ContentViews.{contents_view};
 ghost use Rattle.ice_bits.specs.FunctionBits.{bit_place, function_value, with_function};
 ghost use Rattle.ice_bits.specs.TilePlaces.{place_in};
 ghost use Rattle.ice_bits.specs.TileForms.{kind_of};
 ghost use Rattle.ice_chip.specs.Views.{function_view};
 
 use crate::TileBits;
+use crate::contents::{Contents, RamWord};
 use crate::grids::Grids;
 use ice_base::{BitAt, NoMemory, RowNo, TileAt};
 use ice_chip::{Chip, Function, Tile, TileKind, same_kind};
 use std::alloc::Global;
 use std::marker::Model;
 
-/// The configuration bits of a chip, tile by tile, and the extra bits. Contracts see them as a configuration.
+/// The configuration bits of a chip, tile by tile, the extra bits, and the words that block RAMs hold before the first step. Contracts see
+/// them as a configuration.
 #[derive(Drop)]
 pub struct Bits {
     // The bits of each tile, in the order of the chip's tiles.
@@ -28,6 +31,8 @@ pub struct Bits {
     kinds: Vec<TileKind>,
     // The extra bits in order.
     extras: Vec<(u32, u32, u32)>,
+    // The words of block RAMs in order.
+    contents: Contents,
 }
 
 impl Model for Bits {
@@ -61,7 +66,7 @@ fn kinds_of(alloc: Global, tiles: &[Tile]) -> Result<Vec<TileKind>, NoMemory>
     Ok(kinds)
 }
 
-/// The bits of a chip, all 0, and no extra bits. It fails for want of memory alone.
+/// The bits of a chip, all 0, no extra bits, and no contents of block RAMs. It fails for want of memory alone.
 pub fn blank(alloc: Global, chip: &Chip) -> Result<Bits, NoMemory>
     ensures blank { IfOk result (λ bits. bits ≡ blank chip.now) }
     ensures form { IfOk result (IsOf chip.now) }
@@ -72,6 +77,7 @@ pub fn blank(alloc: Global, chip: &Chip) -> Result<Bits, NoMemory>
         grids,
         kinds,
         extras: Vec::new(alloc),
+        contents: Contents::new(alloc),
     })
 }
 
@@ -83,6 +89,7 @@ impl Bits {
         Ok(Bits {
             kinds: self.kinds.clone()?,
             extras: self.extras.clone()?,
+            contents: self.contents.copy(alloc)?,
             grids: self.grids.copy(alloc)?,
         })
     }
@@ -238,5 +245,20 @@ impl Bits {
     {
         self.extras.push(extra)?;
         Ok(())
+    }
+
+    /// The words that block RAMs hold before the first step, in order, each RAM by its lower tile.
+    pub fn contents(&self) -> &[(TileAt, Vec<RamWord>)]
+        ensures { contents_view result.now ≡ self.now.contents }
+    {
+        self.contents.held()
+    }
+
+    /// Adds the words of a block RAM behind those of the others. After want of memory there are none of it.
+    pub fn add_content(&mut self, tile: TileAt, words: Vec<RamWord>) -> Result<(), NoMemory>
+        ensures added { OnOk result (self.new ≡ with_content tile words.items self.old) }
+        ensures refused { OnErr result (self.new ≡ self.old) }
+    {
+        self.contents.push(tile, words)
     }
 }

@@ -9,10 +9,10 @@ use Rattle.ice_base.specs.declared.number.TileAt.{TileAt}
 use Rattle.ice_base.specs.declared.bit.BitAt.{BitAt}
 use Rattle.ice_base.specs.Places.{same_place}
 use Rattle.ice_chip.specs.Database.{SwitchRow, SwitchGroup, same_tile}
-use Rattle.ice_bits.specs.Settings.{values_of, number_with, row_on, rows_on}
+use Rattle.ice_bits.specs.Settings.{values_of, number_with, row_on}
+use Rattle.ice_bits_rows.specs.Sound.{rows_on, value_at, sets, is_one}
 use Rattle.ice_bits_rows.specs.Bundles.{groups_into, has_bit}
 use Rattle.ice_bits_rows.specs.Own.{each_once}
-use Rattle.ice_bits_rows.specs.Sound.{value_at, sets, is_one}
 use Rattle.ice_bits_rows.specs.Alone.{in_tile, on_there, listed_one}
 use Rattle.ice_bits_rows.specs.Apart.{IsLone}
 use Rattle.ice_bits_rows.specs.Plain.{do_differ, do_rise, is_meeting, meets_one, is_plain, AreAlone}

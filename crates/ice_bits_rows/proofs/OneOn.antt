@@ -3,8 +3,8 @@ use Rattle.std.proofs.Common.{◌≡◌, ℕ, Bool, true, false, cond, Option, N
 use Rattle.ice_base.specs.declared.number.TileAt.{TileAt}
 use Rattle.ice_chip.specs.Database.{SwitchGroup, same_tile}
 use Rattle.ice_bits.specs.Configuration.{Bits}
-use Rattle.ice_bits.specs.Settings.{row_on, rows_on}
-use Rattle.ice_bits_rows.specs.Sound.{is_one}
+use Rattle.ice_bits.specs.Settings.{row_on}
+use Rattle.ice_bits_rows.specs.Sound.{rows_on, is_one}
 use Rattle.ice_bits_rows.specs.Alone.{in_tile, on_there, are_two, either, listed_one}
 
 on_more : (bits : Bits) (g : SwitchGroup) (gs : List SwitchGroup) (o : Option ℕ) → row_on bits g ≡ o → rows_on bits (g ∷ gs) ≡ listed_one o ++ rows_on bits gs

@@ -1,11 +1,12 @@
 -- Items of a list that are passed over.
-use Rattle.std.proofs.Common.{◌≡◌, ℕ, ◌+◌, ◌<◌, Bool, true, false, None, List, ◌∷◌, length, drop, map, get_or, sym, ap, ◌∙◌, refl}
+use Rattle.std.proofs.Common.{◌≡◌, ℕ, ◌+◌, ◌<◌, Bool, None, List, ◌∷◌, length, drop, map, get_or, sym, ap, ◌∙◌}
 use Rattle.std.specs.Prelude.{◌==◌, ◌&&◌, ◌||◌, not}
 use Rattle.std.specs.Borrow.{Bor}
 use Rattle.std.specs.List.{list_any}
 use Rattle.std.proofs.lemmas.List.{at_drop_more}
 use Rattle.ice_base.specs.declared.number.TileAt.{TileAt}
 use Rattle.ice_base.specs.declared.bit.BitAt.{BitAt}
+use Rattle.ice_base.proofs.Booleans.{or_assoc}
 use Rattle.ice_chip.specs.Database.{Parts, same_tile}
 use Rattle.ice_chip.specs.Views.{row_view, group_view}
 use Rattle.ice_chip.specs.declared.sections.Group.{Group}
@@ -15,16 +16,12 @@ use Rattle.ice_bits_rows.specs.FirstSound.{first_of, first_among}
 use Rattle.ice_bits_rows.specs.Lists.{views}
 use Rattle.ice_bits_rows.specs.Owners.{holds_more}
 
-joined : (a b c : Bool) → ((a || b) || c) ≡ (a || (b || c))
-joined true b c = refl
-joined false b c = refl
-
 -- a test of the next item that is noted beside those before
 pub any_noted : {X : Type 0} (test : X → Bool) (xs : List X) (i : ℕ) (x : X) (noted now : Bool) → i < length xs → x ≡ get_or xs i x → now ≡ test x
     → (noted || list_any test (drop i xs)) ≡ ((noted || now) || list_any test (drop (i + 1) xs))
 any_noted test xs i x noted now lt is tested =
     ap (λ b. noted || b) (at_drop_more (list_any test) xs i x lt ∙ ap (λ y. test y || list_any test (drop (i + 1) xs)) (sym is) ∙ ap (λ b. b || list_any test (drop (i + 1) xs)) (sym tested))
-    ∙ sym (joined noted now (list_any test (drop (i + 1) xs)))
+    ∙ sym (or_assoc noted now (list_any test (drop (i + 1) xs)))
 
 -- a group without a sound row from the source
 pub group_passed : (parts : Parts) (source : ℕ) (groups : List (Bor Group)) (i : ℕ) (g : Bor Group) → i < length groups → g ≡ get_or groups i g
@@ -41,6 +38,6 @@ pub group_noted : (groups : List Group) (i : ℕ) (g : Group) (t : TileAt) (b : 
     → (after || is_of_other (map group_view (drop (i + 1) groups)) t w b) ≡ (before || is_of_other (map group_view (drop i groups)) t w b)
 group_noted groups i g t b w before after lt is noted =
     ap (λ z. z || is_of_other (map group_view (drop (i + 1) groups)) t w b) noted
-    ∙ joined before (same_tile g.tile t && not (g.wire.0 == w) && has_bit g.bits.items b) (is_of_other (map group_view (drop (i + 1) groups)) t w b)
+    ∙ or_assoc before (same_tile g.tile t && not (g.wire.0 == w) && has_bit g.bits.items b) (is_of_other (map group_view (drop (i + 1) groups)) t w b)
     ∙ ap (λ (h : Group). before || is_of_other (map group_view (h ∷ drop (i + 1) groups)) t w b) is
     ∙ ap (λ z. before || z) (sym (at_drop_more (λ (gs : List Group). is_of_other (map group_view gs) t w b) groups i g lt))

@@ -8,7 +8,6 @@ use Rattle.ice_base.specs.Places.{same_place}
 use Rattle.ice_chip.specs.Lookups.{kind_at}
 use Rattle.ice_chip.specs.Functions.{same_kind, is_foreign}
 use Rattle.ice_chip.specs.declared.rows.TileKind.{TileKind}
-use Rattle.ice_chip.specs.declared.rows.TileKind.TheVariants.{Io}
 
 -- all groups into a wire
 abbrev pub groups_into : List SwitchGroup → ℕ → List SwitchGroup
@@ -31,9 +30,9 @@ abbrev pub is_of_function : List FunctionRow → Option TileKind → BitAt → B
 is_of_function functions None b = false
 is_of_function functions (Some kind) b = list_any (λ f. same_kind f.kind kind && is_foreign f.kind f.name && has_bit f.bits b) functions
 
--- these are the bits of the foreign functions of IO tiles
-abbrev pub AreForeign : List FunctionRow → List BitAt → Type 0
-AreForeign functions bits = (b : BitAt) → has_bit bits b ≡ is_of_function functions (Some Io) b
+-- these are the bits of the foreign functions of a kind of tile
+abbrev pub AreForeign : List FunctionRow → TileKind → List BitAt → Type 0
+AreForeign functions kind bits = (b : BitAt) → has_bit bits b ≡ is_of_function functions (Some kind) b
 
 abbrev pub is_shared : Parts → TileAt → ℕ → BitAt → Bool
 is_shared parts tile wire b = is_of_other parts.groups tile wire b || is_of_function parts.functions (kind_at parts tile) b

@@ -1,4 +1,5 @@
 pub mod Bundles
+pub mod ForeignBits
 pub mod WireNames
 pub mod Sound
 pub mod Uses

@@ -1,10 +1,10 @@
 -- Sound rows: their values turn them on, and nothing else.
-use Rattle.std.specs.Prelude.{ℕ, ◌==◌, Bool, false, not, ◌&&◌, ◌||◌, List, [], ◌∷◌}
+use Rattle.std.specs.Prelude.{ℕ, ◌==◌, Bool, false, not, ◌&&◌, ◌||◌, List, [], ◌∷◌, filter_map}
 use Rattle.ice_base.specs.declared.bit.BitAt.{BitAt}
 use Rattle.ice_chip.specs.Database.{Parts, SwitchRow, SwitchGroup, same_tile}
 use Rattle.ice_base.specs.Places.{same_place}
 use Rattle.ice_bits.specs.Configuration.{Bits}
-use Rattle.ice_bits.specs.Settings.{rows_on}
+use Rattle.ice_bits.specs.Settings.{row_on}
 use Rattle.ice_bits_rows.specs.Bundles.{bundle, is_private}
 use Rattle.ice_bits_rows.specs.WireNames.{has_memory_name}
 
@@ -17,6 +17,10 @@ value_at (p ∷ bits) (v ∷ values) b = (same_place p b && v) || value_at bits 
 -- the row's values in its group's bits, and 0 elsewhere
 abbrev pub sets : SwitchGroup → SwitchRow → Bits
 sets g r tile b = same_tile g.tile tile && value_at g.bits r.values b
+
+-- the numbers of the rows of these groups that are on
+abbrev pub rows_on : Bits → List SwitchGroup → List ℕ
+rows_on bits groups = filter_map (row_on bits) groups
 
 -- the list holds this number alone
 abbrev pub is_one : ℕ → List ℕ → Bool

@@ -1,8 +1,7 @@
 //! Rows that are the only ones of their bundle that are on.
 ghost use Rattle.std.specs.Prelude.{◌≡◌};
 ghost use Rattle.ice_chip.specs.Views.{row_view, group_view};
-ghost use Rattle.ice_bits.specs.Settings.{rows_on};
-ghost use Rattle.ice_bits_rows.specs.Sound.{sets, is_one};
+ghost use Rattle.ice_bits_rows.specs.Sound.{rows_on, sets, is_one};
 ghost use Rattle.ice_bits_rows.specs.Lists.{views};
 ghost use Rattle.ice_bits_rows.specs.Alone.{in_tile, on_there, are_two, either, listed_one};
 

@@ -6,10 +6,11 @@ ghost use Rattle.ice_chip.specs.Database.{SwitchGroup};
 ghost use Rattle.ice_chip.specs.Lookups.{kind_at};
 ghost use Rattle.ice_chip.specs.Views.{group_view};
 ghost use Rattle.ice_bits_rows.specs.Apart.{is_marked, AreApart, AreFresh, HasMet, IsApart, Marks};
-ghost use Rattle.ice_bits_rows.specs.Bundles.{is_of_function, AreForeign};
+ghost use Rattle.ice_bits_rows.specs.Bundles.{is_of_function};
+ghost use Rattle.ice_bits_rows.specs.ForeignBits.{AreOfForeign};
 ghost use Rattle.ice_bits_rows.specs.Owners.{is_within, place_of};
 
-use crate::foreign::foreign_in;
+use crate::foreign::{ForeignBits, foreign_in};
 use crate::owners::{PLACES, is_within, place_of};
 use ice_base::{BitAt, NoMemory, TileAt};
 use ice_chip::{Chip, Group};
@@ -72,10 +73,10 @@ fn mark_foreign(marks: &mut Vec<bool>, bits: &[BitAt])
 fn marks_of(
     alloc: Global,
     chip: &Chip,
-    foreign: &[BitAt],
+    foreign: &ForeignBits,
     tile: TileAt,
 ) -> Result<Vec<bool>, NoMemory>
-    requires { AreForeign chip.now.functions foreign.now }
+    requires { AreOfForeign chip.now.functions foreign.now }
     ensures long { IfOk result (λ marks. length marks.items ≡ 1024) }
     ensures native { IfOk result (λ marks. (b : Bit) → is_within b ≡ true
         → is_marked marks.items b ≡ false
@@ -90,11 +91,11 @@ fn marks_of(
 fn enter(
     alloc: Global,
     chip: &Chip,
-    foreign: &[BitAt],
+    foreign: &ForeignBits,
     met: &mut Met,
     tile: TileAt,
 ) -> Result<bool, NoMemory>
-    requires foreign { AreForeign chip.now.functions foreign.now }
+    requires foreign { AreOfForeign chip.now.functions foreign.now }
     requires long { length met.old.marks.items ≡ 1024 }
     ensures long { length met.new.marks.items ≡ 1024 }
     ensures entered { IfOk result (λ entered. entered ≡ true
@@ -116,11 +117,11 @@ fn enter(
 fn meet(
     alloc: Global,
     chip: &Chip,
-    foreign: &[BitAt],
+    foreign: &ForeignBits,
     met: &mut Met,
     group: &Group,
 ) -> Result<bool, NoMemory>
-    requires foreign { AreForeign chip.now.functions foreign.now }
+    requires foreign { AreOfForeign chip.now.functions foreign.now }
     requires long { length met.old.marks.items ≡ 1024 }
     requires bits { All (λ b. is_within b ≡ true) group.now.bits.items }
     ensures { IfOk result (λ apart. apart ≡ true
@@ -152,8 +153,8 @@ fn nothing_met(alloc: Global) -> Result<Met, NoMemory>
 ///
 /// # Errors
 /// Want of memory alone.
-pub fn are_apart(alloc: Global, chip: &Chip, foreign: &[BitAt]) -> Result<bool, NoMemory>
-    requires { AreForeign chip.now.functions foreign.now }
+pub fn are_apart(alloc: Global, chip: &Chip, foreign: &ForeignBits) -> Result<bool, NoMemory>
+    requires { AreOfForeign chip.now.functions foreign.now }
     ensures { IfOk result (λ apart. apart ≡ true → AreApart chip.now chip.now.groups) }
 {
     chip.is_chip();

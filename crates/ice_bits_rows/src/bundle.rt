@@ -1,5 +1,5 @@
 //! Bundles: the groups of a tile into a wire.
-ghost use Rattle.std.specs.Prelude.{◌≡◌, Some};
+ghost use Rattle.std.specs.Prelude.{◌≡◌};
 ghost use Rattle.std.specs.List.{list_any};
 ghost use Rattle.ice_chip.specs.Lookups.{kind_at};
 ghost use Rattle.ice_chip.specs.Views.{group_view};
@@ -25,25 +25,13 @@ pub fn has_bit(bits: &[BitAt], bit: BitAt) -> bool
     false
 }
 
-// Whether a foreign function of a kind of tile has the bit. Of all kinds IO tiles alone have foreign functions.
-fn is_of_known(index: &Index, kind: TileKind, bit: BitAt) -> bool
-    ensures { result ≡ is_of_function index.now.chip.now.functions (Some kind) bit }
-{
-    match kind {
-        TileKind::Io => index.is_foreign(bit),
-        TileKind::Logic => false,
-        TileKind::RamBottom => false,
-        TileKind::RamTop => false,
-    }
-}
-
 // Whether a foreign function of the tile's kind has the bit.
 fn is_of_function(index: &Index, kind: Option<TileKind>, bit: BitAt) -> bool
     ensures { result ≡ is_of_function index.now.chip.now.functions kind bit }
 {
     match kind {
         None => false,
-        Some(kind) => is_of_known(index, kind, bit),
+        Some(kind) => index.is_foreign(kind, bit),
     }
 }
 

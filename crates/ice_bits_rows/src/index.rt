@@ -1,19 +1,19 @@
 //! An index of a chip's groups: those into each wire, and the wires of each bit.
 ghost use Rattle.std.specs.Prelude.{◌≡◌, ◌<◌, [], Some, replicate, IfNone, IfOk, IfSome};
 ghost use Rattle.std.specs.Option.{ForNone, ForSome};
-ghost use Rattle.ice_bits_rows.specs.Bundles.{groups_into, is_of_function, AreForeign};
-ghost use Rattle.ice_chip.specs.declared.rows.TileKind.TheVariants.{Io};
+ghost use Rattle.ice_bits_rows.specs.Bundles.{groups_into, is_of_function};
+ghost use Rattle.ice_bits_rows.specs.ForeignBits.{AreOfForeign};
 ghost use Rattle.ice_bits_rows.specs.Lists.{views, lists_of, listed};
 ghost use Rattle.ice_bits_rows.specs.Apart.{ShareNothing};
 ghost use Rattle.ice_bits_rows.specs.Owners.{AreOwners};
 
 use crate::apart::are_apart;
 use crate::bundle::has_bit;
-use crate::foreign::foreign_bits;
+use crate::foreign::{ForeignBits, foreign_bits, foreign_of};
 use crate::lists::groups_by_wire;
 use crate::owners::{Owners, owners_of};
 use ice_base::{BitAt, NoMemory, WireNo};
-use ice_chip::{Chip, Group};
+use ice_chip::{Chip, Group, TileKind};
 use std::alloc::Global;
 
 /// A chip whose groups are found at once by the wire into which they lead, and where groups share bits, the wires by these.
@@ -25,18 +25,22 @@ pub struct Index<'a> {
     into: Vec<Vec<&'a Group>>,
     // The wires of each bit; none where no two groups of a tile have a bit in common, and none has one of a foreign function.
     owners: Option<Owners>,
-    // The bits of the foreign functions of IO tiles.
-    foreign: Vec<BitAt>,
+    // The bits of foreign functions.
+    foreign: ForeignBits,
     ghost are_listed: { lists_of into.items
         ≡ listed (replicate chip.now.wires []) chip.now.groups },
     ghost are_owners: { ForSome owners (AreOwners chip.now.groups) },
     ghost share_nothing: { ForNone owners (ShareNothing chip.now) },
-    ghost are_foreign: { AreForeign chip.now.functions foreign.items },
+    ghost are_foreign: { AreOfForeign chip.now.functions foreign },
 }
 
 // The wires of each bit, where groups share bits.
-fn shared_owners(alloc: Global, chip: &Chip, foreign: &[BitAt]) -> Result<Option<Owners>, NoMemory>
-    requires { AreForeign chip.now.functions foreign.now }
+fn shared_owners(
+    alloc: Global,
+    chip: &Chip,
+    foreign: &ForeignBits,
+) -> Result<Option<Owners>, NoMemory>
+    requires { AreOfForeign chip.now.functions foreign.now }
     ensures owners { IfOk result (λ owners. ForSome owners (AreOwners chip.now.groups)) }
     ensures nothing { IfOk result (λ owners. ForNone owners (ShareNothing chip.now)) }
 {
@@ -96,10 +100,10 @@ impl<'a> Index<'a> {
         self.owners.as_ref()
     }
 
-    /// Whether a foreign function of IO tiles has the bit.
-    pub fn is_foreign(&self, bit: BitAt) -> bool
-        ensures { result ≡ is_of_function self.now.chip.now.functions (Some Io) bit }
+    /// Whether a foreign function of a kind of tile has the bit. Logic tiles alone have no foreign functions.
+    pub fn is_foreign(&self, kind: TileKind, bit: BitAt) -> bool
+        ensures { result ≡ is_of_function self.now.chip.now.functions (Some kind) bit }
     {
-        has_bit(&self.foreign, bit)
+        has_bit(foreign_of(self.chip, &self.foreign, kind), bit)
     }
 }

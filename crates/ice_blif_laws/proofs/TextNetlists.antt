@@ -20,7 +20,8 @@ use Rattle.ice_blif.proofs.Kept.{bind_keeps, either, any_ok, weaker}
 use Rattle.ice_base.proofs.Keys.{bytes_same}
 use Rattle.ice_ram_read.specs.RamTexts.{RamData, is_gate, listed, before_line, after_line, rams_said, rams_of}
 use Rattle.ice_ram_read.proofs.Unclosed.{alone_exactly}
-use Rattle.ice_blif_laws.specs.NetlistText.{join, joined_lines, NetSoFar, port_joins, gate_directive, signal_joins, cover_joins, row_joins_cover, param_joins, directive_joins, blif_line_joins, model_lines, blif_lines_join, netlist_in, NetlistTextsSayNetlists}
+use Rattle.ice_blif_laws.specs.NetlistText.{join, joined_lines, NetSoFar, port_joins, gate_directive, signal_joins, cover_joins, row_joins_cover, param_joins, directive_joins, blif_line_joins, model_lines, blif_lines_join, netlist_in}
+use Rattle.ice_blif_laws.specs.NetlistTextLaw.{NetlistTextsSayNetlists}
 use Rattle.ice_blif_laws.proofs.NoRams.{OpensNone, rest_nil, opens_none}
 use Rattle.ice_blif_laws.proofs.TextParams.{param_said}
 use Rattle.ice_blif_laws.proofs.TextSteps.{seen, Alike, chosen, chosen_by, ports_said, gate_said, names_said, row_said}

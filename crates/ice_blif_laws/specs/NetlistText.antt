@@ -1,6 +1,5 @@
--- What a netlist text without RAMs says, for one who reads it and has no use for its faults. A text without RAMs that the reader takes says
--- the netlist that the reader makes of it.
-use Rattle.std.specs.Prelude.{◌≡◌, ℕ, ◌+◌, ◌-◌, ◌==◌, Bool, false, ◌||◌, List, [], ◌∷◌, ◌++◌, length, take, drop, fold, replicate, position, nat_le, slice_set, Option, Some, None, option_map, Ok, if◌then◌else◌, codes, bytes_eq}
+-- What a netlist text without RAMs says, for one who reads it and has no use for its faults.
+use Rattle.std.specs.Prelude.{ℕ, ◌+◌, ◌-◌, ◌==◌, Bool, false, ◌||◌, List, [], ◌∷◌, ◌++◌, length, take, drop, fold, replicate, position, nat_le, slice_set, Option, Some, None, option_map, if◌then◌else◌, codes, bytes_eq}
 use Rattle.std.specs.Option.{option_and_then}
 use Rattle.ice_base.specs.Lists.{with_name}
 use Rattle.ice_base.specs.Text.{lines, numbered, words, begins_with, uncommented}
@@ -17,7 +16,6 @@ use Rattle.ice_blif.specs.State.{OpenCover, LastCell, Nothing, Gate, Rows, named
 use Rattle.ice_blif.specs.Continued.{continued}
 use Rattle.ice_blif.specs.Covers.{level_of_word}
 use Rattle.ice_blif.specs.Registers.{taken_apart}
-use Rattle.ice_ram_read.specs.ClosedNetlists.{closed_netlist_of, without_rams}
 
 -- ---- lines
 -- a line before joined ones: where it goes on, and this is in front of its backslash, it has the words of the next one too
@@ -146,7 +144,3 @@ blif_lines_join ((line, first ∷ others) ∷ more) =
 -- the netlist that a text says, with pads taken apart that have registers or feed globals
 abbrev pub netlist_in : List ℕ → Option NetlistData
 netlist_in text = option_map taken_apart (blif_lines_join (joined_lines (numbered 1 (lines text))))
-
--- a text without RAMs that the reader takes says the netlist that the reader makes of it
-abbrev pub NetlistTextsSayNetlists : Type 0
-NetlistTextsSayNetlists = (text : List ℕ) (n : NetlistData) → closed_netlist_of text ≡ Ok (without_rams n) → netlist_in text ≡ Some n

@@ -1,5 +1,5 @@
 //! Laws of the netlists that texts say. The functions do nothing: their contracts are the laws.
-ghost use Rattle.ice_blif_laws.specs.NetlistText.{NetlistTextsSayNetlists};
+ghost use Rattle.ice_blif_laws.specs.NetlistTextLaw.{NetlistTextsSayNetlists};
 ghost use Rattle.ice_blif_laws.specs.ReadNames.{ReadNamesAreKnown};
 ghost use Rattle.ice_blif_laws.specs.SameNames.{TextsNameOnce, WrittenShowsTheSame};
 

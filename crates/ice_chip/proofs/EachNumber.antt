@@ -4,7 +4,7 @@ use Rattle.ice_chip.specs.Database.{FunctionRow}
 use Rattle.ice_chip.specs.LacksFunction.{has_function, has_each}
 use Rattle.ice_chip.specs.declared.rows.TileKind.{TileKind}
 use Rattle.std.proofs.lemmas.Bool.{and_parts, and_cases}
-use Rattle.ice_chip.proofs.Prefixes.{below_or_last}
+use Rattle.ice_chip_names.proofs.Prefixes.{below_or_last}
 
 and_false : (a b : Bool) → b ≡ false → (a && b) ≡ false
 and_false true b e = e

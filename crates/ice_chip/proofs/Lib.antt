@@ -10,11 +10,8 @@ mod Numbering
 mod Different
 mod Readers
 mod RowPlaces
-pub mod Prefixes
-pub mod WireNamesRead
-mod FunctionNamesRead
-mod FirstBytes
 mod FirstOfAll
 pub mod EachNumber
 mod NeededNames
 mod LackingLaws
+pub mod Passing

@@ -4,7 +4,7 @@ use Rattle.ice_chip.specs.Database.{FunctionRow}
 use Rattle.ice_chip.specs.Names.{digit, number_behind, cell_function, falling_clock_function, pin_type_function, input_enable_function, column_buffer_function}
 use Rattle.ice_chip.specs.FunctionNames.{carry_set_function, pull_up_function}
 use Rattle.ice_chip.specs.FirstLacking.{needs_buffers, is_needed}
-use Rattle.ice_chip.specs.Functions.{is_read, is_column_buffer, is_logic_cell, is_first_pin_type, is_second_pin_type, is_pad_enable}
+use Rattle.ice_chip.specs.Functions.{is_read, is_column_buffer, is_logic_cell, is_first_pin_type, is_second_pin_type, is_pad_enable, is_ram_function}
 use Rattle.ice_chip.specs.LacksFunction.{has_function, has_each, has_needed, has_logic, has_pin_types, has_pad_enables, has_column_buffers}
 use Rattle.ice_chip.specs.declared.rows.TileKind.{TileKind}
 use Rattle.ice_chip.specs.declared.rows.TileKind.TheVariants.{Io, Logic, RamBottom, RamTop}
@@ -12,7 +12,7 @@ use Rattle.ice_chip.proofs.EachNumber.{has_one, lacking_number}
 use Rattle.std.proofs.lemmas.Bool.{or_cases, and_parts, and_cases}
 use Rattle.ice_base.proofs.Booleans.{and_true, or_true, implied, not_implied}
 use Rattle.ice_base.proofs.Keys.{bytes_same}
-use Rattle.ice_chip.proofs.Prefixes.{number_behind_read, set_number}
+use Rattle.ice_chip_names.proofs.Prefixes.{number_behind_read, set_number}
 
 -- a name that passes a test and that the kind has no function of
 pub record Missing (kind : TileKind) (fs : List FunctionRow) (test : List ℕ → Bool) : Type 0 where
@@ -20,7 +20,7 @@ pub record Missing (kind : TileKind) (fs : List FunctionRow) (test : List ℕ �
   pub passes : test name ≡ true
   pub lacking : has_function kind name fs ≡ false
 
--- the names that are read and are no column buffers
+-- the names that are read, of no block RAM and of no column buffer
 abbrev is_own : TileKind → List ℕ → Bool
 is_own Io name = is_first_pin_type name || is_second_pin_type name || is_pad_enable name
 is_own Logic name = is_logic_cell name || bytes_eq name (codes "NegClk") || bytes_eq name (codes "CarryInSet")
@@ -33,11 +33,23 @@ has_own Logic fs = has_logic fs
 has_own RamBottom fs = true
 has_own RamTop fs = true
 
-reads_own : (kind : TileKind) (name : List ℕ) → is_read kind name ≡ (is_own kind name || is_column_buffer name)
-reads_own Io name = refl
-reads_own Logic name = refl
-reads_own RamBottom name = refl
-reads_own RamTop name = refl
+-- what is read is of a block RAM, or else one of these, or of a column buffer
+reads_own : (kind : TileKind) (name : List ℕ) → is_ram_function kind name ≡ false → is_read kind name ≡ (is_own kind name || is_column_buffer name)
+reads_own Io name none = refl
+reads_own Logic name none = refl
+reads_own RamBottom name none = ap (λ b. b || is_column_buffer name) none
+reads_own RamTop name none = ap (λ b. b || is_column_buffer name) none
+
+not_so : (b : Bool) → not b ≡ true → b ≡ false
+not_so true e = sym e
+not_so false e = refl
+
+-- a name of a column buffer, which has another first byte, is of no block RAM
+no_ram_buffer : (kind : TileKind) (n : ℕ) → is_ram_function kind (column_buffer_function n) ≡ false
+no_ram_buffer Io n = refl
+no_ram_buffer Logic n = refl
+no_ram_buffer RamBottom n = refl
+no_ram_buffer RamTop n = refl
 
 needs_own : (is_source : Bool) (kind : TileKind) (fs : List FunctionRow) → has_needed is_source kind fs ≡ (has_own kind fs && (not (needs_buffers is_source kind) || has_column_buffers kind fs))
 needs_own is_source Io fs = sym (and_true (has_own Io fs))
@@ -87,8 +99,9 @@ buffer_there kind fs name all is = there kind fs column_buffer_function 8 (codes
 pub has_what_it_needs : (is_source : Bool) (kind : TileKind) (fs : List FunctionRow) (name : List ℕ) → has_needed is_source kind fs ≡ true → is_needed is_source kind name ≡ true → has_function kind name fs ≡ true
 has_what_it_needs is_source kind fs name all needed =
     let has = and_parts (has_own kind fs) (not (needs_buffers is_source kind) || has_column_buffers kind fs) (sym (needs_own is_source kind fs) ∙ all) in
-    let asked = and_parts (is_read kind name) (not (is_column_buffer name) || needs_buffers is_source kind) needed in
-    elim (or_cases (is_own kind name) (is_column_buffer name) (sym (reads_own kind name) ∙ asked.0)) [
+    let asked = and_parts (is_read kind name && not (is_ram_function kind name)) (not (is_column_buffer name) || needs_buffers is_source kind) needed in
+    let read = and_parts (is_read kind name) (not (is_ram_function kind name)) asked.0 in
+    elim (or_cases (is_own kind name) (is_column_buffer name) (sym (reads_own kind name (not_so (is_ram_function kind name) read.1)) ∙ read.0)) [
       | inl own ↦ own_there kind fs name has.0 own
       | inr buffer ↦ buffer_there kind fs name (implied (needs_buffers is_source kind) (has_column_buffers kind fs) has.1 (implied (is_column_buffer name) (needs_buffers is_source kind) asked.1 buffer)) buffer
     ]
@@ -145,14 +158,23 @@ buffer_needed : (is_source : Bool) (kind : TileKind) → needs_buffers is_source
 buffer_needed is_source kind wanted n lt =
     let name = column_buffer_function n in
     let read : is_column_buffer name ≡ true = read_so 8 (codes "ColBufCtrl.glb_netwk_") n lt (omega arith) in
-    ap (λ t. t && (not (is_column_buffer name) || needs_buffers is_source kind))
-    (reads_own kind name ∙ ap (λ t. is_own kind name || t) read ∙ or_true (is_own kind name))
+    ap (λ t. t && not (is_ram_function kind name) && (not (is_column_buffer name) || needs_buffers is_source kind))
+    (reads_own kind name (no_ram_buffer kind n) ∙ ap (λ t. is_own kind name || t) read ∙ or_true (is_own kind name))
+    ∙ ap (λ t. not t && (not (is_column_buffer name) || needs_buffers is_source kind)) (no_ram_buffer kind n)
     ∙ ap (λ t. not (is_column_buffer name) || t) wanted ∙ or_true (not (is_column_buffer name))
+
+own_no_ram : (kind : TileKind) (name : List ℕ) → is_own kind name ≡ true → is_ram_function kind name ≡ false
+own_no_ram Io name own = refl
+own_no_ram Logic name own = refl
+own_no_ram RamBottom name own = absurd (true≢false (sym own))
+own_no_ram RamTop name own = absurd (true≢false (sym own))
 
 own_needed : (is_source : Bool) (kind : TileKind) (name : List ℕ) → is_apart kind name ≡ true → is_needed is_source kind name ≡ true
 own_needed is_source kind name apart =
     let parts = and_parts (is_own kind name) (not (is_column_buffer name)) apart in
-    ap (λ t. t && (not (is_column_buffer name) || needs_buffers is_source kind)) (reads_own kind name ∙ ap (λ t. t || is_column_buffer name) parts.0)
+    let none = own_no_ram kind name parts.0 in
+    ap (λ t. t && not (is_ram_function kind name) && (not (is_column_buffer name) || needs_buffers is_source kind)) (reads_own kind name none ∙ ap (λ t. t || is_column_buffer name) parts.0)
+    ∙ ap (λ t. not t && (not (is_column_buffer name) || needs_buffers is_source kind)) none
     ∙ ap (λ t. t || needs_buffers is_source kind) parts.1
 
 pub lacks_what_it_needs : (is_source : Bool) (kind : TileKind) (fs : List FunctionRow) → has_needed is_source kind fs ≡ false → Missing kind fs (is_needed is_source kind)

@@ -1,7 +1,7 @@
 -- What a kind of tile lacks, told by the names of functions that it needs.
 use Rattle.std.specs.Prelude.{◌≡◌, ◌⊎◌, ℕ, ◌≤◌, ◌&&◌, ◌||◌, not, Bool, true, false, Option, None, Some, List, ◌∷◌, ◌++◌}
 use Rattle.ice_chip.specs.Database.{Parts, FunctionRow}
-use Rattle.ice_chip.specs.Functions.{is_read, is_column_buffer, function_line}
+use Rattle.ice_chip.specs.Functions.{is_read, is_column_buffer, is_ram_function, function_line}
 use Rattle.ice_chip.specs.LacksFunction.{has_tile, is_buffer_source, has_wrong_bits, lacks_function}
 use Rattle.ice_chip.specs.declared.rows.TileKind.{TileKind}
 use Rattle.ice_chip.specs.declared.rows.TileKind.TheVariants.{Io, Logic, RamBottom, RamTop}
@@ -13,9 +13,9 @@ needs_buffers is_source Logic = is_source
 needs_buffers is_source RamBottom = is_source
 needs_buffers is_source RamTop = is_source
 
--- the kind needs the functions that are read in it, but column buffers only so
+-- the kind needs the functions that are read in it, but none of block RAMs, and column buffers only so
 abbrev pub is_needed : Bool → TileKind → List ℕ → Bool
-is_needed is_source kind name = is_read kind name && (not (is_column_buffer name) || needs_buffers is_source kind)
+is_needed is_source kind name = is_read kind name && not (is_ram_function kind name) && (not (is_column_buffer name) || needs_buffers is_source kind)
 
 -- a kind with a tile has no function of a name that it needs
 pub record Lacks (parts : Parts) : Type 0 where

@@ -43,7 +43,8 @@ has_pin_types fs = has_each Io (pin_type_function 0) 6 fs && has_each Io (pin_ty
 abbrev pub has_pad_enables : List FunctionRow → Bool
 has_pad_enables fs = has_each Io input_enable_function 2 fs && has_each Io pull_up_function 2 fs
 
--- all functions that the kind needs; logic and memory need column buffers where they are a source of them
+-- all functions that the kind needs; logic and memory need column buffers where they are a source of them, and memory needs none of block
+-- RAMs: a chip that lacks one has no block RAM
 abbrev pub has_needed : Bool → TileKind → List FunctionRow → Bool
 has_needed is_source Io fs = has_pin_types fs && has_pad_enables fs
 has_needed is_source Logic fs = has_logic fs && (not is_source || has_column_buffers Logic fs)

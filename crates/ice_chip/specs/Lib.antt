@@ -5,7 +5,7 @@ pub mod Database
 pub mod Limits
 pub mod PinNames
 pub mod Names
-pub mod NameReaders
+pub mod RamNames
 pub mod WireNames
 pub mod FunctionNames
 pub mod Functions
@@ -27,4 +27,3 @@ pub mod SharedFunction
 pub mod LacksFunction
 pub mod FirstShared
 pub mod FirstLacking
-pub mod FirstBytes

@@ -1,7 +1,6 @@
 -- Wires that lead to two pins.
-use Rattle.std.specs.Prelude.{ℕ, Bool, ◌||◌, ◌&&◌, false, Option, None, Some, List, [], ◌∷◌, ◌++◌, bytes_eq, if◌then◌else◌, Result, Ok, Err}
+use Rattle.std.specs.Prelude.{ℕ, Bool, ◌||◌, ◌&&◌, false, Option, None, Some, List, [], ◌∷◌, ◌++◌, bytes_eq, if◌then◌else◌, Result, Ok, Err, nat_eq}
 use Rattle.std.specs.Map.{lookup}
-use Rattle.std.specs.Prelude.{nat_eq}
 use Rattle.ice_base.specs.declared.number.TileAt.{TileAt}
 use Rattle.ice_chip.specs.Database.{Parts, WireName, same_tile, tile_known}
 use Rattle.ice_chip.specs.Names.{is_global_name}

@@ -9,7 +9,7 @@ pub fn shared_function_is_first()
 {}
 
 /// The answer is line 0 where a kind with a tile has no function of a name that it needs, which is one that is read in the
-/// kind, but a column buffer's only in logic and memory that is a source of these. Where nothing is lacking, it is the
+/// kind, but none of block RAMs, and a column buffer's only in logic and memory that is a source of these. Where nothing is lacking, it is the
 /// least line of a read function of a kind with a tile that has a wrong number of bits, and there is none exactly where
 /// no such function is there.
 pub fn lacks_function_is_first()

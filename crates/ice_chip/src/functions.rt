@@ -1,5 +1,5 @@
 //! Which functions of a kind of tile are read or kept.
-ghost use Rattle.std.specs.Prelude.{◌≡◌, map, option_map};
+ghost use Rattle.std.specs.Prelude.{◌≡◌, map};
 ghost use Rattle.ice_chip.specs.Views.{function_view};
 ghost use Rattle.ice_chip.specs.Functions.{
   is_logic_cell,
@@ -7,14 +7,17 @@ ghost use Rattle.ice_chip.specs.Functions.{
   is_first_pin_type,
   is_second_pin_type,
   is_pad_enable,
+  is_ram_function,
   is_read,
   is_of_pll,
+  is_of_cascade,
   is_foreign,
   same_kind,
   function_line,
 };
 
-use crate::{Function, TileKind, number_behind};
+use crate::{Function, TileKind};
+use ice_chip_names::number_behind;
 
 /// Whether the name is that of a logic cell's bits.
 pub fn is_logic_cell(name: &[u8]) -> bool
@@ -52,6 +55,23 @@ fn is_pad_enable(name: &[u8]) -> bool
         || number_behind(2, b"IoCtrl.REN_", name).is_some()
 }
 
+/// Whether this is a function of block RAMs in tiles of the kind: the edges of their clocks, whether they are in use, and the modes of
+/// their ports. A chip may lack them.
+pub fn is_ram_function(kind: TileKind, name: &[u8]) -> bool
+    ensures { result ≡ is_ram_function kind name.now }
+{
+    match kind {
+        TileKind::Io => false,
+        TileKind::Logic => false,
+        TileKind::RamBottom => {
+            name == b"NegClk".as_slice() || name == b"RamConfig.PowerUp".as_slice()
+        }
+        TileKind::RamTop => {
+            name == b"NegClk".as_slice() || number_behind(4, b"RamConfig.CBIT_", name).is_some()
+        }
+    }
+}
+
 /// Whether the function of this name is read in tiles of the kind.
 pub fn is_read(kind: TileKind, name: &[u8]) -> bool
     ensures { result ≡ is_read kind name.now }
@@ -69,8 +89,8 @@ pub fn is_read(kind: TileKind, name: &[u8]) -> bool
                 || name == b"CarryInSet".as_slice()
                 || is_column_buffer(name)
         }
-        TileKind::RamBottom => is_column_buffer(name),
-        TileKind::RamTop => is_column_buffer(name),
+        TileKind::RamBottom => is_ram_function(kind, name) || is_column_buffer(name),
+        TileKind::RamTop => is_ram_function(kind, name) || is_column_buffer(name),
     }
 }
 
@@ -84,6 +104,13 @@ fn is_of_pll(name: &[u8]) -> bool
     }
 }
 
+// Whether the name begins with `RamCascade.`
+fn is_of_cascade(name: &[u8]) -> bool
+    ensures { result ≡ is_of_cascade name.now }
+{
+    name.starts_with(b"RamCascade.".as_slice())
+}
+
 /// Whether the function of this name is kept although it isn't read.
 pub fn is_foreign(kind: TileKind, name: &[u8]) -> bool
     ensures { result ≡ is_foreign kind name.now }
@@ -93,8 +120,8 @@ pub fn is_foreign(kind: TileKind, name: &[u8]) -> bool
             is_of_pll(name) || name == b"IoCtrl.LVDS".as_slice() || name == b"NegClk".as_slice()
         }
         TileKind::Logic => false,
-        TileKind::RamBottom => false,
-        TileKind::RamTop => false,
+        TileKind::RamBottom => is_of_cascade(name),
+        TileKind::RamTop => is_of_cascade(name),
     }
 }
 

@@ -1,6 +1,6 @@
 //! The maps and lists by which a chip answers at once.
 ghost use Rattle.std.specs.Prelude.{◌≡◌, [], map, filter, IfOk, OnOk, nat_eq};
-ghost use Rattle.ice_chip.specs.Database.{same_tile, tile_known};
+ghost use Rattle.ice_chip.specs.Database.{same_tile};
 ghost use Rattle.ice_chip.specs.Lookups.{global_tile, fed_pad, is_io, holds_buffers, buffer_counts, served_tile};
 ghost use Rattle.ice_chip.specs.Listings.{tile_of};
 ghost use Rattle.ice_chip.specs.Indices.{with_first, firsts, enables_of};

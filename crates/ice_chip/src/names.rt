@@ -1,9 +1,8 @@
 //! Wires by their names at places.
-ghost use Rattle.std.specs.Prelude.{◌≡◌, [], map, filter, position, bytes_eq, IfOk, OnOk};
+ghost use Rattle.std.specs.Prelude.{◌≡◌, map, IfOk, OnOk};
 ghost use Rattle.std.specs.Map.{lookup};
-ghost use Rattle.ice_chip.specs.Database.{tile_known};
-ghost use Rattle.ice_chip.specs.Lookups.{is_placed, placed_names, placed_wire};
-ghost use Rattle.ice_chip.specs.Indices.{with_first, same_numbered, with_named, numbered};
+ghost use Rattle.ice_chip.specs.Lookups.{placed_names, placed_wire};
+ghost use Rattle.ice_chip.specs.Indices.{same_numbered, with_named, numbered};
 ghost use Rattle.ice_base.specs.Lists.{with_name, number_of_name};
 ghost use Rattle.ice_base.specs.Keys.{texts};
 ghost use Rattle.ice_chip.specs.NameIndex.{numbered_of, no_names};

@@ -15,12 +15,12 @@ pub enum TileKind {
     RamTop,
 }
 
-/// A pad: one of the two of an IO tile.
+/// A pad: one of the two of an IO tile, or a pin of a block RAM.
 #[derive(Clone, Copy, Debug, PartialEq, Eq, Hash)]
 pub struct Pad {
     /// The tile of the pad.
     pub tile: TileAt,
-    /// Which of the tile's two pads: 0 or 1.
+    /// Which of the tile's two pads: 0 or 1. A pin of a block RAM has its number and 2 more.
     pub pio: u8,
 }
 

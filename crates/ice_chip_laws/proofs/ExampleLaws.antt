@@ -14,6 +14,7 @@ use Rattle.ice_chip.specs.IsRead.{HasWiresBelow, IsRead, IsChip}
 use Rattle.ice_chip.specs.Listings.{rows_of}
 use Rattle.ice_chip.specs.Within.{IsPlace, IsPad, FeedsGlobal, PadFeedsGlobal, ArePads, ArePlaces, IsBit, IsKept, is_again, IsGroup, IsPackage}
 use Rattle.ice_chip.specs.declared.rows.Pad.{Pad}
+use Rattle.ice_chip_names.specs.RamNames.{ram_names}
 use Rattle.ice_chip_laws.specs.Example.{example, switch_groups, wire_names, FindsExample}
 use Rattle.ice_base.proofs.Keys.{nat_same}
 
@@ -160,9 +161,11 @@ example_is_read = record {
 }
 
 pub example_is_chip : IsChip example
+unfolding ram_names
 example_is_chip = record { read = example_is_read; faultless = refl }
 
 pub finds_example : FindsExample
+unfolding ram_names
 finds_example = record {
   wire = refl;
   other_tile = refl;

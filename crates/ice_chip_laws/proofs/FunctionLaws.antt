@@ -9,7 +9,7 @@ use Rattle.ice_base.specs.declared.number.TileAt.{TileAt}
 use Rattle.ice_base.specs.declared.bit.BitAt.{BitAt}
 use Rattle.ice_chip.specs.Database.{Parts, FunctionRow, same_tile, tile_known}
 use Rattle.ice_chip.specs.FirstLacking.{needs_buffers, is_needed, Lacks, IsWrong, IsFirstLack, LacksFunctionIsFirst}
-use Rattle.ice_chip.specs.Functions.{is_read, is_column_buffer, same_kind, function_line}
+use Rattle.ice_chip.specs.Functions.{is_read, is_column_buffer, is_ram_function, same_kind, function_line}
 use Rattle.ice_chip.specs.IsRead.{IsChip}
 use Rattle.ice_chip.specs.LacksFunction.{is_of_kind, has_kind, has_tile, is_buffer_source, has_function, has_column_buffers, bits_needed, has_wrong_bits}
 use Rattle.ice_chip.specs.Lookups.{kind_at, is_function, function_of}
@@ -22,7 +22,7 @@ use Rattle.ice_base_values.specs.Order.{Has}
 use Rattle.ice_chip_laws.proofs.FaultFree.{no_fault}
 use Rattle.ice_chip_laws.proofs.KnownTiles.{known_kind}
 use Rattle.ice_base_values.proofs.Members.{Has_cases, Has_none, find_Has, lookup_Has}
-use Rattle.ice_chip_laws.proofs.NameTests.{passes, buffers, is_own, cell_own, first_type_own, second_type_own, enable_own, buffer_is_one, buffer_is_read}
+use Rattle.ice_chip_laws.proofs.NameTests.{passes, buffers, is_own, cell_own, first_type_own, second_type_own, enable_own, buffer_is_one, buffer_is_read, buffer_not_ram}
 use Rattle.ice_base.proofs.Keys.{nat_same, bytes_same}
 use Rattle.ice_chip.proofs.SameKinds.{kind_same, kind_self}
 
@@ -156,10 +156,12 @@ module _ (parts : Parts) (chip : IsChip parts) (first : LacksFunctionIsFirst) wh
 
   own_function : (t : TileAt) (kind : TileKind) (count : ℕ) (name : List ℕ) → kind_at parts t ≡ Some kind → is_own kind count name ≡ true → HasFunction parts kind name count
   own_function t kind count name at own =
-      let read_and = and_parts (is_read kind name) (not (is_column_buffer name) && (bits_needed name == count)) own in
-      let others = and_parts (not (is_column_buffer name)) (bits_needed name == count) read_and.1 in
+      let read_and = and_parts (is_read kind name) (not (is_ram_function kind name) && (not (is_column_buffer name) && (bits_needed name == count))) own in
+      let apart = and_parts (not (is_ram_function kind name)) (not (is_column_buffer name) && (bits_needed name == count)) read_and.1 in
+      let others = and_parts (not (is_column_buffer name)) (bits_needed name == count) apart.1 in
       let needed : is_needed (is_source kind) kind name ≡ true =
-      and_from (is_read kind name) (not (is_column_buffer name) || needs_buffers (is_source kind) kind) read_and.0 (or_left (not (is_column_buffer name)) (needs_buffers (is_source kind) kind) others.0) in
+      and_from (is_read kind name && not (is_ram_function kind name)) (not (is_column_buffer name) || needs_buffers (is_source kind) kind)
+      (and_from (is_read kind name) (not (is_ram_function kind name)) read_and.0 apart.0) (or_left (not (is_column_buffer name)) (needs_buffers (is_source kind) kind) others.0) in
       subst (HasFunction parts kind name) (nat_same (bits_needed name) count others.1) (needed_function t kind name at read_and.0 needed)
 
   pub functions_are : HasFunctions parts
@@ -203,5 +205,6 @@ module _ (parts : Parts) (chip : IsChip parts) (first : LacksFunctionIsFirst) wh
 
       needed : (name : List ℕ) → is_column_buffer name ≡ true → is_needed (is_source kind) kind name ≡ true
       needed name buffer =
-          and_from (is_read kind name) (not (is_column_buffer name) || needs_buffers (is_source kind) kind) (buffer_is_read kind name buffer)
+          and_from (is_read kind name && not (is_ram_function kind name)) (not (is_column_buffer name) || needs_buffers (is_source kind) kind)
+          (and_from (is_read kind name) (not (is_ram_function kind name)) (buffer_is_read kind name buffer) (buffer_not_ram kind name buffer))
           (or_right (not (is_column_buffer name)) (needs_buffers (is_source kind) kind) (ap (λ b. needs_buffers b kind) is_one ∙ needs kind other))

@@ -10,7 +10,7 @@ use Rattle.ice_base.specs.declared.number.TileAt.{TileAt}
 use Rattle.ice_base.specs.declared.bit.BitAt.{BitAt}
 use Rattle.ice_chip.specs.Database.{Parts, FunctionRow}
 use Rattle.ice_chip.specs.FirstLacking.{LacksFunctionIsFirst}
-use Rattle.ice_chip.specs.Functions.{is_read, is_logic_cell, is_column_buffer, is_first_pin_type, is_second_pin_type, is_pad_enable}
+use Rattle.ice_chip.specs.Functions.{is_read, is_logic_cell, is_column_buffer, is_first_pin_type, is_second_pin_type, is_pad_enable, is_ram_function}
 use Rattle.ice_chip.specs.IsRead.{IsChip}
 use Rattle.ice_chip.specs.LacksFunction.{bits_needed}
 use Rattle.ice_chip.specs.Lookups.{kind_at, function_of}
@@ -20,7 +20,7 @@ use Rattle.ice_chip_laws.specs.Bits.{function_place, IsReadAt, read_bits, is_the
 use Rattle.ice_base_values.specs.Order.{Has}
 use Rattle.ice_chip_laws.proofs.FunctionLaws.{size_of}
 use Rattle.ice_base_values.proofs.Members.{find_Has, Has_find, all_Has, any_Has}
-use Rattle.ice_chip_laws.proofs.NameTests.{passes, enables_pass, cells, buffers, first_types, second_types}
+use Rattle.ice_chip_laws.proofs.NameTests.{passes, enables_pass, cells, buffers, first_types, second_types, modes, in_set}
 use Rattle.ice_base.proofs.Keys.{nat_same, nat_self, bytes_same}
 
 -- ---- the bits that are read are listed
@@ -66,8 +66,20 @@ read_listed Logic name is = elim (or_cases (is_logic_cell name || bytes_eq name 
   | inl own ↦ logic_listed name own
   | inr buffer ↦ buffers_listed Logic name buffer
 ]
-read_listed RamBottom name is = buffers_listed RamBottom name is
-read_listed RamTop name is = buffers_listed RamTop name is
+read_listed RamBottom name is = elim (or_cases (is_ram_function RamBottom name) (is_column_buffer name) is) [
+  | inr buffer ↦ buffers_listed RamBottom name buffer
+  | inl own ↦ elim (or_cases (bytes_eq name (codes "NegClk")) (bytes_eq name (codes "RamConfig.PowerUp")) own) [
+    | inl edge ↦ ap (are_listed RamBottom) (bytes_same name (codes "NegClk") edge)
+    | inr power ↦ ap (are_listed RamBottom) (bytes_same name (codes "RamConfig.PowerUp") power)
+  ]
+]
+read_listed RamTop name is = elim (or_cases (is_ram_function RamTop name) (is_column_buffer name) is) [
+  | inr buffer ↦ buffers_listed RamTop name buffer
+  | inl own ↦ elim (or_cases (bytes_eq name (codes "NegClk")) (in_set modes name) own) [
+    | inl edge ↦ ap (are_listed RamTop) (bytes_same name (codes "NegClk") edge)
+    | inr mode ↦ passes (are_listed RamTop) modes name (omega arith) refl mode
+  ]
+]
 
 in_range : (n k : ℕ) → k < n → Has (range_with_len 0 n) k
 in_range n k lt =

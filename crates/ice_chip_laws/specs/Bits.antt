@@ -5,6 +5,7 @@ use Rattle.std.specs.Option.{option_and_then}
 use Rattle.ice_base.specs.declared.number.TileAt.{TileAt}
 use Rattle.ice_base.specs.declared.bit.BitAt.{BitAt}
 use Rattle.ice_chip.specs.Database.{Parts, FunctionRow, SwitchGroup, columns}
+use Rattle.ice_chip.specs.FunctionNames.{power_up_function, ram_mode_function}
 use Rattle.ice_chip.specs.Names.{cell_function, falling_clock_function, pin_type_function, input_enable_function, column_buffer_function}
 use Rattle.ice_chip.specs.FunctionNames.{carry_set_function, pull_up_function}
 use Rattle.ice_chip.specs.Functions.{is_read, is_foreign}
@@ -32,12 +33,16 @@ pad_bits pio = map (λ place. (pin_type_function pio place, 0)) (range_with_len 
 abbrev pub cell_bits : ℕ → List (List ℕ × ℕ)
 cell_bits cell = map (λ k. (cell_function cell, k)) (range_with_len 0 20)
 
+-- the bits of the modes of the ports of a block RAM
+abbrev pub mode_bits : List (List ℕ × ℕ)
+mode_bits = map (λ place. (ram_mode_function place, 0)) (range_with_len 0 4)
+
 -- the bits of the functions that are read in tiles of a kind, each by the function's name and its own number
 abbrev pub read_bits : TileKind → List (List ℕ × ℕ)
 read_bits Io = pad_bits 0 ++ pad_bits 1 ++ buffer_bits
 read_bits Logic = flat_map cell_bits (range_with_len 0 8) ++ (falling_clock_function, 0) ∷ (carry_set_function, 0) ∷ buffer_bits
-read_bits RamBottom = buffer_bits
-read_bits RamTop = buffer_bits
+read_bits RamBottom = (falling_clock_function, 0) ∷ (power_up_function, 0) ∷ buffer_bits
+read_bits RamTop = (falling_clock_function, 0) ∷ (mode_bits ++ buffer_bits)
 
 abbrev pub is_there : BitAt → Option BitAt → Bool
 is_there b None = false

@@ -11,7 +11,7 @@ use crate::words::{ended, three};
 use ice_base::{PlainWords, number_of};
 
 // What stands behind a prefix.
-#[tactic(auto, using(ice_chip::proofs::Prefixes::behind_is))]
+#[tactic(auto, using(ice_chip_names::proofs::Prefixes::behind_is))]
 fn behind<'a>(prefix: &[u8], name: &'a [u8]) -> Option<&'a [u8]>
     ensures { option_map (λ rest. rest.now) result ≡ behind prefix.now name.now }
 {

@@ -1,5 +1,5 @@
 //! Words of headings and rows that are numbers.
-ghost use Rattle.std.specs.Prelude.{◌≡◌, ◌∷◌};
+ghost use Rattle.std.specs.Prelude.{◌∷◌};
 ghost use Rattle.ice_chip_read.specs.Words.{number, two, three, no_word_left};
 ghost use Rattle.ice_chip_read.specs.Lines.{one_word};
 ghost use Rattle.ice_chip_read.specs.Views.{Says};

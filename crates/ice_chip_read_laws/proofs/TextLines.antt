@@ -10,7 +10,8 @@ use Rattle.ice_chip.specs.declared.fault.ChipFault.TheVariants.{NoDevice, BadNam
 use Rattle.ice_chip_read.specs.Words.{three, no_word_left, heading_of}
 use Rattle.ice_chip_read.specs.Lines.{sizes_in, begun_within, device_first, heading_says, row_says, with_closed, chip_line_says, chip_lines_say, first_says, plain_says, chip_text_says}
 use Rattle.ice_chip_read.specs.Reading.{Reading, begun, closed}
-use Rattle.ice_chip_read_laws.specs.ChipText.{all_numbers, and_section, heading_opens, row_joins, chip_line_joins, chip_lines_join, chip_sized, device_line, chip_of_lines, chip_rows, ChipTextsSayRows}
+use Rattle.ice_chip_read_laws.specs.ChipText.{all_numbers, and_section, heading_opens, row_joins, chip_line_joins, chip_lines_join, chip_sized, device_line, chip_of_lines, chip_rows}
+use Rattle.ice_chip_read_laws.specs.ChipTextLaw.{ChipTextsSayRows}
 use Rattle.ice_chip_read_laws.proofs.Named.{bind_meeting}
 use Rattle.ice_chip_read_laws.proofs.TextWords.{AreThree, three_read, none_left, three_numbers}
 use Rattle.ice_chip_read_laws.proofs.TextSections.{section_of, seen, Alike, ended_alike}

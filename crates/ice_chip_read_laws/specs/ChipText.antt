@@ -1,6 +1,5 @@
--- What a chip text says, for one who reads it and has no use for its faults: section by section, the rows of a database. A text that the
--- reader takes says the rows that the reader makes of it.
-use Rattle.std.specs.Prelude.{◌≡◌, ℕ, ◌+◌, ◌||◌, ◌&&◌, Option, Some, None, List, [], ◌∷◌, ◌++◌, map, is_some, option_map, Ok, codes, bytes_eq, if◌then◌else◌}
+-- What a chip text says, for one who reads it and has no use for its faults: section by section, the rows of a database.
+use Rattle.std.specs.Prelude.{ℕ, ◌+◌, ◌||◌, ◌&&◌, Option, Some, None, List, [], ◌∷◌, ◌++◌, map, is_some, option_map, codes, bytes_eq, if◌then◌else◌}
 use Rattle.std.specs.Map.{lookup}
 use Rattle.std.specs.Option.{option_and_then, option_map_or}
 use Rattle.indexmap.specs.IndexSet.{insert_key}
@@ -13,7 +12,6 @@ use Rattle.ice_chip.specs.Functions.{is_read, is_foreign}
 use Rattle.ice_chip.specs.declared.rows.TileKind.{TileKind}
 use Rattle.ice_chip.specs.declared.rows.TileKind.TheVariants.{Io, Logic, RamBottom, RamTop}
 use Rattle.ice_chip.specs.declared.rows.Pad.{Pad}
-use Rattle.ice_chip_read.specs.Lines.{chip_text_says}
 use Rattle.ice_chip.specs.Names.{padin_global}
 
 -- ---- words
@@ -203,7 +201,3 @@ chip_of_lines (first ∷ others) = option_and_then (chip_lines_join others) (dev
 -- the rows that a chip text says
 abbrev pub chip_rows : List ℕ → Option Parts
 chip_rows text = chip_of_lines (plain_lines (numbered 1 (lines text)))
-
--- a text that the reader takes says the rows that the reader makes of it
-abbrev pub ChipTextsSayRows : Type 0
-ChipTextsSayRows = (text : List ℕ) (parts : Parts) → chip_text_says text ≡ Ok parts → chip_rows text ≡ Some parts

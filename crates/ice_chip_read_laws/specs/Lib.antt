@@ -1,2 +1,3 @@
 pub mod ChipText
+pub mod ChipTextLaw
 pub mod Pins

@@ -1,5 +1,5 @@
 //! Laws of chips that texts say. The functions do nothing: the contract of each is its law.
-ghost use Rattle.ice_chip_read_laws.specs.ChipText.{ChipTextsSayRows};
+ghost use Rattle.ice_chip_read_laws.specs.ChipTextLaw.{ChipTextsSayRows};
 ghost use Rattle.ice_chip_read_laws.specs.Pins.{PinsAreWords};
 
 /// Each pin of a package of a chip that a text says is named by a word.

@@ -15,7 +15,8 @@ use Rattle.ice_bits.specs.Settings.{values_of, number_with, row_on}
 use Rattle.ice_decode.specs.declared.driver.Switch.{Switch}
 use Rattle.ice_decode.specs.declared.driver.Driver.{Driver}
 use Rattle.ice_decode.specs.declared.driver.Driver.TheVariants.{Nothing, By, Several}
-use Rattle.ice_decode.specs.Drivers.{switch, switch_at, switch_on, switches_on, into, driver_among, driver, row_of}
+use Rattle.ice_decode.specs.Drivers.{switch, switch_at, switch_on, switches_on, into, driver_among, driver}
+use Rattle.ice_decode.specs.DrivingRows.{row_of}
 use Rattle.ice_decode.specs.FirstFaults.{or_else, first_of, contended_by}
 use Rattle.ice_decode.specs.Refusals.{IsFaultless, CircuitData, IsCircuitOf}
 use Rattle.ice_decode.specs.Laws.{HasNoRowOn, IsDriverOf}

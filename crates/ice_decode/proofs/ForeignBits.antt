@@ -1,4 +1,4 @@
--- A tile in which no place of foreign functions is set has no foreign function, and nor has a tile that is no IO tile.
+-- A tile in which no place of foreign functions is set has no foreign function, and nor has a logic tile.
 use Rattle.std.proofs.Common.{◌≡◌, Bool, true, false, cond, List, [], ◌∷◌, ◌++◌, Some, None, refl, ap, sym, ◌∙◌, eqb}
 use Rattle.std.specs.Prelude.{◌&&◌, ◌||◌, find, option_map}
 use Rattle.std.specs.List.{list_any}
@@ -10,6 +10,7 @@ use Rattle.ice_chip.specs.Functions.{is_foreign, same_kind}
 use Rattle.ice_chip.specs.declared.rows.TileKind.{TileKind}
 use Rattle.ice_chip.specs.declared.rows.TileKind.TheVariants.{Io, Logic, RamBottom, RamTop}
 use Rattle.ice_chip.specs.declared.tile.Tile.{Tile}
+use Rattle.ice_chip.proofs.SameKinds.{kind_same}
 use Rattle.ice_bits.specs.Configuration.{Bits, same_place}
 use Rattle.ice_decode.specs.Faults.{counts_in}
 use Rattle.ice_decode.specs.ForeignTiles.{is_set_at, foreign_at}
@@ -80,18 +81,22 @@ module _ (parts : Parts) (bits : Bits) (tile : Tile) where
   none_marked functions places are none =
       ap (option_map (λ (f : FunctionRow). f.line)) (unset [] functions (ap (list_any (bits tile.at)) (sym are) ∙ none)).1
 
-  -- foreign functions are functions of IO tiles
-  not_foreign : (f : FunctionRow) (kind : TileKind) → f.kind ≡ kind → same_kind Io tile.kind ≡ false → is_set_at parts bits tile f ≡ false
-  not_foreign f Io e other =
-      ap (λ kind. same_kind kind tile.kind && is_foreign f.kind f.name && list_any (bits tile.at) f.bits && counts_in parts bits tile.at f.name) e
+  -- a function of another kind of tile
+  elsewhere : (f : FunctionRow) (kind : TileKind) → f.kind ≡ kind → same_kind kind tile.kind ≡ false → is_set_at parts bits tile f ≡ false
+  elsewhere f kind e other =
+      ap (λ k. same_kind k tile.kind && is_foreign f.kind f.name && list_any (bits tile.at) f.bits && counts_in parts bits tile.at f.name) e
       ∙ ap (λ x. x && is_foreign f.kind f.name && list_any (bits tile.at) f.bits && counts_in parts bits tile.at f.name) other
-  not_foreign f Logic e other = not_both (same_kind f.kind tile.kind) (is_foreign f.kind f.name) _ _ (ap (λ kind. is_foreign kind f.name && list_any (bits tile.at) f.bits) e)
-  not_foreign f RamBottom e other = not_both (same_kind f.kind tile.kind) (is_foreign f.kind f.name) _ _ (ap (λ kind. is_foreign kind f.name && list_any (bits tile.at) f.bits) e)
-  not_foreign f RamTop e other = not_both (same_kind f.kind tile.kind) (is_foreign f.kind f.name) _ _ (ap (λ kind. is_foreign kind f.name && list_any (bits tile.at) f.bits) e)
 
-  none_found : (functions : List FunctionRow) → same_kind Io tile.kind ≡ false → find (is_set_at parts bits tile) functions ≡ None
-  none_found [] other = refl
-  none_found (f ∷ functions) other = ap (λ x. cond x (Some f) (find (is_set_at parts bits tile) functions)) (not_foreign f f.kind refl other) ∙ none_found functions other
+  -- logic tiles have no foreign functions
+  not_foreign : (f : FunctionRow) (kind : TileKind) → f.kind ≡ kind → Logic ≡ tile.kind → is_set_at parts bits tile f ≡ false
+  not_foreign f Io e logic = elsewhere f Io e (ap (same_kind Io) (sym logic))
+  not_foreign f Logic e logic = not_both (same_kind f.kind tile.kind) (is_foreign f.kind f.name) _ _ (ap (λ kind. is_foreign kind f.name && list_any (bits tile.at) f.bits) e)
+  not_foreign f RamBottom e logic = elsewhere f RamBottom e (ap (same_kind RamBottom) (sym logic))
+  not_foreign f RamTop e logic = elsewhere f RamTop e (ap (same_kind RamTop) (sym logic))
 
-  pub none_elsewhere : (functions : List FunctionRow) → same_kind Io tile.kind ≡ false → foreign_at parts functions bits tile ≡ None
-  none_elsewhere functions other = ap (option_map (λ (f : FunctionRow). f.line)) (none_found functions other)
+  none_found : (functions : List FunctionRow) → Logic ≡ tile.kind → find (is_set_at parts bits tile) functions ≡ None
+  none_found [] logic = refl
+  none_found (f ∷ functions) logic = ap (λ x. cond x (Some f) (find (is_set_at parts bits tile) functions)) (not_foreign f f.kind refl logic) ∙ none_found functions logic
+
+  pub none_elsewhere : (functions : List FunctionRow) → same_kind Logic tile.kind ≡ true → foreign_at parts functions bits tile ≡ None
+  none_elsewhere functions logic = ap (option_map (λ (f : FunctionRow). f.line)) (none_found functions (kind_same Logic tile.kind logic))

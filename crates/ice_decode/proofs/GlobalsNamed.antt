@@ -13,9 +13,9 @@ use Rattle.ice_chip.specs.declared.rows.TileKind.{TileKind}
 use Rattle.ice_chip.specs.declared.rows.TileKind.TheVariants.{Io, Logic, RamBottom, RamTop}
 use Rattle.ice_chip.specs.declared.placed.PlacedName.{PlacedName}
 use Rattle.ice_chip.specs.WireNames.{tile_wire, global_name}
-use Rattle.ice_chip.specs.declared.wire_names.TileWire.{TileWire}
-use Rattle.ice_chip.specs.declared.wire_names.TileWire.TheVariants.{Global}
-use Rattle.ice_chip.proofs.Prefixes.{set_number}
+use Rattle.ice_chip_names.specs.declared.wire_names.TileWire.{TileWire}
+use Rattle.ice_chip_names.specs.declared.wire_names.TileWire.TheVariants.{Global}
+use Rattle.ice_chip_names.proofs.Prefixes.{set_number}
 use Rattle.ice_chip_laws.specs.Laws.{IsLawful}
 use Rattle.ice_base_values.specs.Order.{Has}
 use Rattle.ice_chip_laws.specs.Names.{HasName}

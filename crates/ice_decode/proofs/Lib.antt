@@ -10,6 +10,9 @@ pub mod ReadPoints
 pub mod Loopless
 pub mod TileLists
 pub mod ForeignBits
+pub mod PlainFaults
+pub mod PadDrives
+pub mod RamsOn
 pub mod DriverTables
 pub mod Driven
 pub mod GlobalsNamed

@@ -1,8 +1,8 @@
 -- What a wire is, by the name of a pin.
 use Rattle.std.proofs.Common.{◌≡◌, ◌⊎◌, ℕ, zero, suc, ◌+◌, ◌-◌, ◌<◌, ◌≤◌, Bool, true, false, Option, None, Some, List, [], ◌∷◌, cond, inl, inr, refl, sym, ap, ◌∙◌, subst, arith, leb-true}
-use Rattle.std.specs.Prelude.{◌==◌, ◌&&◌, ◌++◌, nat_le, bytes_eq, codes}
-use Rattle.std.specs.Option.{option_map_or}
-use Rattle.std.proofs.lemmas.Bool.{and_parts, or_right}
+use Rattle.std.specs.Prelude.{◌==◌, ◌&&◌, ◌||◌, ◌++◌, not, nat_le, bytes_eq, codes}
+use Rattle.std.specs.Option.{option_map_or, option_and_then, option_or}
+use Rattle.std.proofs.lemmas.Bool.{and_parts, and_from, or_left, or_right}
 use Rattle.std.proofs.lemmas.Option.{same_Some}
 use Rattle.ice_base.specs.declared.number.TileAt.{TileAt}
 use Rattle.ice_base.proofs.Keys.{nat_same, bytes_same}
@@ -10,22 +10,24 @@ use Rattle.ice_base_values.specs.Order.{Has}
 use Rattle.ice_base_values.proofs.Together.{Has_head, Has_tail}
 use Rattle.ice_chip.specs.Database.{Parts}
 use Rattle.ice_chip.specs.Names.{digit, is_global_name, cell_pin, in_out_enable_name}
-use Rattle.ice_chip.specs.PinNames.{is_output_of, is_input_name, is_output_name}
+use Rattle.ice_chip.specs.PinNames.{is_output_of, is_input_name, is_output_name, is_input_of}
+use Rattle.ice_chip.specs.RamNames.{has_ram_wire, ram_number, is_read_out, is_clock_enable, pin_at}
 use Rattle.ice_chip.specs.Lookups.{kind_at, names_of, wire_named, placed_at}
 use Rattle.ice_chip.specs.WireNames.{cell_wire, tile_wire, global_name}
 use Rattle.ice_chip.specs.declared.rows.TileKind.{TileKind}
 use Rattle.ice_chip.specs.declared.rows.TileKind.TheVariants.{Io, Logic, RamBottom, RamTop}
 use Rattle.ice_chip.specs.declared.placed.PlacedName.{PlacedName}
-use Rattle.ice_chip.specs.declared.wire_names.TileWire.{TileWire}
-use Rattle.ice_chip.specs.declared.wire_names.TileWire.TheVariants as wire
-use Rattle.ice_chip.proofs.Prefixes.{digit_is, set_number}
-use Rattle.ice_chip.proofs.WireNamesRead.{of_cell}
+use Rattle.ice_chip_names.specs.declared.wire_names.TileWire.{TileWire}
+use Rattle.ice_chip_names.specs.declared.wire_names.TileWire.TheVariants as wire
+use Rattle.ice_chip_names.proofs.Prefixes.{digit_is, set_number}
+use Rattle.ice_chip_names.proofs.WireNamesRead.{of_cell, ram_wire_named}
+use Rattle.ice_chip_names.proofs.RamNamesRead.{no_ram_name}
 use Rattle.ice_chip_laws.specs.Names.{HasNames, HasName}
 use Rattle.ice_chip_laws.specs.Pins.{HasPins, AreOnePin, is_pin_in, is_pin_name}
 use Rattle.ice_decode.specs.declared.role.Role.{Role}
-use Rattle.ice_decode.specs.declared.role.Role.TheVariants.{Plain, Output, LookUp, CarryOut, PadInput, Global, CarryIn, ClockEnable}
+use Rattle.ice_decode.specs.declared.role.Role.TheVariants.{Plain, Output, LookUp, CarryOut, PadInput, RamOutput, Global, CarryIn, ClockEnable}
 use Rattle.ice_decode.proofs.GlobalsNamed.{global_pin}
-use Rattle.ice_decode.specs.Drivers.{number_at, global_role, output_role, or_global, role_in, role_or, first_role, role_of}
+use Rattle.ice_decode.specs.Drivers.{number_at, global_role, output_role, or_global, role_in, role_or, first_role, role_of, ram_wire_role, ram_role}
 
 -- ---- the first role of names
 -- names of which each has this role or none
@@ -112,9 +114,56 @@ cell_out name p pin wires is =
     let out = wires cell.0 in
     wire_pin Logic name out.0 (ap tile_wire cell.2 ∙ of_cell cell.0 (47 ∷ p ∷ pin) cell.1 ∙ out.1) out.2
 
+-- a wire of a block RAM that has a role is a pin's
+wire_in_pin : (kind : TileKind) (name : List ℕ) (w : TileWire) → tile_wire name ≡ Some w → is_input_of kind w ≡ true → is_pin_in (Some kind) name ≡ true
+wire_in_pin kind name w e reads =
+    or_left (is_input_name kind name) (is_output_name kind name) (ap (λ (o : Option TileWire). option_map_or (is_input_of kind) o false) e ∙ reads)
+
+-- an enable of a clock is nothing that is read out
+enable_reads : (n : ℕ) → is_clock_enable n ≡ true → not (is_read_out n) ≡ true
+enable_reads n e = by (n == 74) refl e
+  where
+    by : (b : Bool) → (n == 74) ≡ b → (b || (n == 75)) ≡ true → not (is_read_out n) ≡ true
+    by true is f = ap (λ k. not (is_read_out k)) (nat_same n 74 is)
+    by false is f = ap (λ k. not (is_read_out k)) (nat_same n 75 f)
+
+ram_pin_role : (t : TileAt) (kind : TileKind) (name : List ℕ) (n : ℕ) (r : Role) → ram_number name ≡ Some n → ram_wire_role t kind n ≡ Some r → is_pin_in (Some kind) name ≡ true
+ram_pin_role t kind name n r named e = by (has_ram_wire kind n && is_read_out n) (has_ram_wire kind n && is_clock_enable n) refl refl e
+  where
+    drives_so : (k : TileKind) → (has_ram_wire k n && is_read_out n) ≡ true → is_output_of k (wire.Ram n) ≡ true
+    drives_so Io f = f
+    drives_so Logic f = f
+    drives_so RamBottom f = f
+    drives_so RamTop f = f
+
+    reads_so : (k : TileKind) → (has_ram_wire k n && not (is_read_out n)) ≡ true → is_input_of k (wire.Ram n) ≡ true
+    reads_so Io f = f
+    reads_so Logic f = f
+    reads_so RamBottom f = f
+    reads_so RamTop f = f
+
+    by : (a b : Bool) → (has_ram_wire kind n && is_read_out n) ≡ a → (has_ram_wire kind n && is_clock_enable n) ≡ b
+        → cond a (Some (RamOutput (pin_at t n))) (cond b (Some ClockEnable) None) ≡ Some r → is_pin_in (Some kind) name ≡ true
+    by true b ea eb f = wire_pin kind name (wire.Ram n) (ram_wire_named name n named) (drives_so kind ea)
+    by false true ea eb f =
+        let both = and_parts (has_ram_wire kind n) (is_clock_enable n) eb in
+        wire_in_pin kind name (wire.Ram n) (ram_wire_named name n named) (reads_so kind (and_from (has_ram_wire kind n) (not (is_read_out n)) both.0 (enable_reads n both.1)))
+    by false false ea eb f = cc f
+
+ram_role_pin : (t : TileAt) (kind : TileKind) (name : List ℕ) (r : Role) → ram_role t kind name ≡ Some r → is_pin_in (Some kind) name ≡ true
+ram_role_pin t kind name r e = by (ram_number name) refl e
+  where
+    of : (n : ℕ) (o : Option Role) → ram_number name ≡ Some n → ram_wire_role t kind n ≡ o → option_or o (global_role name) ≡ Some r → is_pin_in (Some kind) name ≡ true
+    of n None named is f = global_pin kind name (global_some name r f)
+    of n (Some s) named is f = ram_pin_role t kind name n s named is
+
+    by : (o : Option ℕ) → ram_number name ≡ o → option_or (option_and_then (ram_wire_role t kind) o) (global_role name) ≡ Some r → is_pin_in (Some kind) name ≡ true
+    by None named f = global_pin kind name (global_some name r f)
+    by (Some n) named f = of n (ram_wire_role t kind n) named refl f
+
 role_pin : (t : TileAt) (kind : TileKind) (name : List ℕ) (r : Role) → role_in t (Some kind) name ≡ Some r → is_pin_in (Some kind) name ≡ true
-role_pin t RamBottom name r e = global_pin RamBottom name (global_some name r e)
-role_pin t RamTop name r e = global_pin RamTop name (global_some name r e)
+role_pin t RamBottom name r e = ram_role_pin t RamBottom name r e
+role_pin t RamTop name r e = ram_role_pin t RamTop name r e
 role_pin t Io name r e = by (bytes_eq name (codes "io_0/D_IN_0")) (bytes_eq name (codes "io_1/D_IN_0")) (bytes_eq name in_out_enable_name) refl refl refl e
   where
     by : (a b c : Bool) → bytes_eq name (codes "io_0/D_IN_0") ≡ a → bytes_eq name (codes "io_1/D_IN_0") ≡ b → bytes_eq name in_out_enable_name ≡ c
@@ -150,21 +199,21 @@ abbrev IsGlobalRole : List ℕ → Type 0
 IsGlobalRole name = (t : TileAt) (kind : TileKind) → role_in t (Some kind) name ≡ Some (Global (number_at name 10))
 
 every_kind : (name : List ℕ) → ((t : TileAt) → role_in t (Some Io) name ≡ Some (Global (number_at name 10))) → ((t : TileAt) → role_in t (Some Logic) name ≡ Some (Global (number_at name 10)))
-    → global_role name ≡ Some (Global (number_at name 10)) → IsGlobalRole name
-every_kind name io logic other t Io = io t
-every_kind name io logic other t Logic = logic t
-every_kind name io logic other t RamBottom = other
-every_kind name io logic other t RamTop = other
+    → global_role name ≡ Some (Global (number_at name 10)) → ram_number name ≡ None → IsGlobalRole name
+every_kind name io logic other none t Io = io t
+every_kind name io logic other none t Logic = logic t
+every_kind name io logic other none t RamBottom = ap (λ o. option_or (option_and_then (ram_wire_role t RamBottom) o) (global_role name)) none ∙ other
+every_kind name io logic other none t RamTop = ap (λ o. option_or (option_and_then (ram_wire_role t RamTop) o) (global_role name)) none ∙ other
 
 global_number : (n : ℕ) → n < 8 → IsGlobalRole (global_name n)
-global_number zero lt = every_kind (global_name 0) (λ t. refl) (λ t. refl) refl
-global_number (suc zero) lt = every_kind (global_name 1) (λ t. refl) (λ t. refl) refl
-global_number (suc (suc zero)) lt = every_kind (global_name 2) (λ t. refl) (λ t. refl) refl
-global_number (suc (suc (suc zero))) lt = every_kind (global_name 3) (λ t. refl) (λ t. refl) refl
-global_number (suc (suc (suc (suc zero)))) lt = every_kind (global_name 4) (λ t. refl) (λ t. refl) refl
-global_number (suc (suc (suc (suc (suc zero))))) lt = every_kind (global_name 5) (λ t. refl) (λ t. refl) refl
-global_number (suc (suc (suc (suc (suc (suc zero)))))) lt = every_kind (global_name 6) (λ t. refl) (λ t. refl) refl
-global_number (suc (suc (suc (suc (suc (suc (suc zero))))))) lt = every_kind (global_name 7) (λ t. refl) (λ t. refl) refl
+global_number zero lt = every_kind (global_name 0) (λ t. refl) (λ t. refl) refl (no_ram_name 103 (codes "lb_netwk_0") refl)
+global_number (suc zero) lt = every_kind (global_name 1) (λ t. refl) (λ t. refl) refl (no_ram_name 103 (codes "lb_netwk_1") refl)
+global_number (suc (suc zero)) lt = every_kind (global_name 2) (λ t. refl) (λ t. refl) refl (no_ram_name 103 (codes "lb_netwk_2") refl)
+global_number (suc (suc (suc zero))) lt = every_kind (global_name 3) (λ t. refl) (λ t. refl) refl (no_ram_name 103 (codes "lb_netwk_3") refl)
+global_number (suc (suc (suc (suc zero)))) lt = every_kind (global_name 4) (λ t. refl) (λ t. refl) refl (no_ram_name 103 (codes "lb_netwk_4") refl)
+global_number (suc (suc (suc (suc (suc zero))))) lt = every_kind (global_name 5) (λ t. refl) (λ t. refl) refl (no_ram_name 103 (codes "lb_netwk_5") refl)
+global_number (suc (suc (suc (suc (suc (suc zero)))))) lt = every_kind (global_name 6) (λ t. refl) (λ t. refl) refl (no_ram_name 103 (codes "lb_netwk_6") refl)
+global_number (suc (suc (suc (suc (suc (suc (suc zero))))))) lt = every_kind (global_name 7) (λ t. refl) (λ t. refl) refl (no_ram_name 103 (codes "lb_netwk_7") refl)
 global_number (suc (suc (suc (suc (suc (suc (suc (suc n)))))))) lt = absurd (omega arith)
 
 pub global_any : (name : List ℕ) → is_global_name name ≡ true → IsGlobalRole name

@@ -10,8 +10,8 @@ use Rattle.ice_base_values.proofs.Places.{At_append_cases}
 use Rattle.ice_decode.specs.declared.point.Point.{Point}
 use Rattle.ice_decode.specs.declared.point.Point.TheVariants.{Wire, Carry}
 use Rattle.ice_decode.specs.Cells.{cells_in}
-use Rattle.ice_decode.specs.Reads.{wire_point, carry_point}
-use Rattle.ice_decode.specs.Points.{points_by}
+use Rattle.ice_decode.specs.Reads.{wire_point}
+use Rattle.ice_decode.specs.Points.{carry_point, points_by}
 use Rattle.ice_decode.proofs.Members.{At_left, At_right, At_map, At_map_cases, At_range, At_range_cases}
 
 -- ---- cells

@@ -19,12 +19,13 @@ use Rattle.ice_decode.specs.declared.point.Point.TheVariants.{Wire, Carry}
 use Rattle.ice_decode.specs.declared.driver.Driver.{Driver}
 use Rattle.ice_decode.specs.declared.driver.Driver.TheVariants.{Nothing, By, Several}
 use Rattle.ice_decode.specs.declared.role.Role.{Role}
-use Rattle.ice_decode.specs.declared.role.Role.TheVariants.{Plain, Output, LookUp, CarryOut, PadInput, Global, CarryIn, ClockEnable}
+use Rattle.ice_decode.specs.declared.role.Role.TheVariants.{Plain, Output, LookUp, CarryOut, PadInput, RamOutput, Global, CarryIn, ClockEnable}
 use Rattle.ice_chip.specs.Names.{input_name}
 use Rattle.ice_decode.specs.Cells.{has_carry, has_flop, logic_tiles}
 use Rattle.ice_decode.specs.Direct.{takes_pad}
 use Rattle.ice_decode.specs.Drivers.{driver, role_of}
-use Rattle.ice_decode.specs.Reads.{wire_point, points, at_pin, at_pin_of, global_feed, cell_inputs, carry_inputs, role_reads, driven_reads, reads_at, depends_on}
+use Rattle.ice_decode.specs.Reads.{wire_point, at_pin, at_pin_of, global_feed, cell_inputs, carry_inputs, role_reads, driven_reads, reads_at, depends_on}
+use Rattle.ice_decode.specs.Points.{points}
 use Rattle.ice_decode.proofs.PointPlaces.{StandsAs, wire_at, carry_at, point_cases}
 use Rattle.ice_decode.proofs.RolePlaces.{IsCell, IsOfCell, role_of_cell, cell_there}
 use Rattle.ice_decode.proofs.Switches.{driver_between}
@@ -83,6 +84,7 @@ role_read parts bits extras read w (Output t i) fits =
 role_read parts bits extras read w (LookUp t i) fits = inputs_read parts bits read (wire_point w) t i
 role_read parts bits extras read w (CarryOut t i) fits = (fits, tt)
 role_read parts bits extras read w (PadInput pad) fits = tt
+role_read parts bits extras read w (RamOutput pad) fits = tt
 role_read parts bits extras read w (Global n) fits =
     cond_both (takes_pad parts extras n) [] (global_feed parts n ∷ []) (AllRead (IsReadBy parts (wire_point w))) (λ e. tt) (λ e. feed_read parts bits read (wire_point w) (global_of parts n))
 role_read parts bits extras read w (CarryIn t) fits = tt

@@ -1,14 +1,16 @@
--- The cells, pads and globals that wires are of, are those of the chip.
-use Rattle.std.proofs.Common.{◌≡◌, ◌⊎◌, ℕ, suc, ◌+◌, ◌-◌, ◌*◌, ◌<◌, Bool, true, false, cond, List, [], ◌∷◌, Some, None, Option, inl, inr, refl, ap, sym, subst, filter, zero, arith}
-use Rattle.std.specs.Prelude.{codes, bytes_eq}
+-- The cells, pads and globals that wires are of, are those of the chip; pins of block RAMs have numbers from 2 on.
+use Rattle.std.proofs.Common.{◌≡◌, ◌⊎◌, ℕ, suc, ◌+◌, ◌*◌, ◌<◌, ◌≤◌, Bool, true, false, cond, List, [], ◌∷◌, Some, None, Option, inl, inr, refl, ap, sym, subst, filter, zero, arith}
+use Rattle.std.specs.Prelude.{codes, bytes_eq, ◌&&◌}
 use Rattle.std.specs.Map.{lookup}
 use Rattle.std.proofs.lemmas.Bool.{cond_both}
 use Rattle.std.proofs.lemmas.Option.{same_Some}
 use Rattle.ice_base.specs.declared.number.TileAt.{TileAt}
 use Rattle.ice_chip.specs.Database.{Parts, same_tile, tile_known}
 use Rattle.ice_chip.specs.Lookups.{kind_at, names_of}
+use Rattle.std.specs.Option.{option_and_then, option_or}
 use Rattle.ice_chip.specs.Names.{cell_pin, is_global_name, in_out_enable_name}
 use Rattle.ice_chip.specs.WireNames.{global_name}
+use Rattle.ice_chip.specs.RamNames.{has_ram_wire, ram_number, is_read_out, is_clock_enable, pin_at}
 use Rattle.ice_chip.specs.declared.rows.TileLine.{TileLine}
 use Rattle.ice_chip.specs.declared.rows.TileKind.{TileKind}
 use Rattle.ice_chip.specs.declared.rows.TileKind.TheVariants.{Io, Logic, RamBottom, RamTop}
@@ -16,17 +18,17 @@ use Rattle.ice_chip.specs.declared.placed.PlacedName.{PlacedName}
 use Rattle.ice_base_values.specs.Order.{Has}
 use Rattle.ice_decode.specs.declared.point.Point.TheVariants.{Carry}
 use Rattle.ice_decode.specs.declared.role.Role.{Role}
-use Rattle.ice_decode.specs.declared.role.Role.TheVariants.{Plain, Output, LookUp, CarryOut, PadInput, Global, CarryIn, ClockEnable}
+use Rattle.ice_decode.specs.declared.role.Role.TheVariants.{Plain, Output, LookUp, CarryOut, PadInput, RamOutput, Global, CarryIn, ClockEnable}
 use Rattle.ice_decode.specs.Cells.{is_logic, is_logic_tile, logic_tiles}
-use Rattle.ice_decode.specs.Reads.{points}
-use Rattle.ice_decode.specs.Drivers.{number_at, global_role, output_role, or_global, logic_role, io_role, role_in, role_or, first_role, role_of}
+use Rattle.ice_decode.specs.Points.{points}
+use Rattle.ice_decode.specs.Drivers.{number_at, global_role, output_role, or_global, logic_role, io_role, role_in, role_or, first_role, role_of, ram_wire_role, ram_role}
 use Rattle.ice_decode.proofs.Members.{Has_filter, Has_map}
 use Rattle.ice_base.proofs.Keys.{tile_same}
 use Rattle.ice_base.proofs.Options.{option_map_some}
 use Rattle.ice_decode.proofs.PointPlaces.{carry_at}
 use Rattle.ice_decode.proofs.CellDigits.{digit_small}
 use Rattle.ice_chip.specs.declared.rows.Pad.{Pad}
-use Rattle.ice_chip.proofs.Prefixes.{set_number}
+use Rattle.ice_chip_names.proofs.Prefixes.{set_number}
 
 -- a cell of a logic tile
 pub record IsCell (parts : Parts) (t : TileAt) (i : ℕ) : Type 0 where
@@ -46,6 +48,7 @@ module _ (parts : Parts) where
   IsOfCell (LookUp t i) = IsCell parts t i
   IsOfCell (CarryOut t i) = IsCell parts t i
   IsOfCell (PadInput pad) = IsIoPad parts pad
+  IsOfCell (RamOutput pad) = 2 ≤ pad.pio
   IsOfCell (Global n) = n < 8
   IsOfCell (CarryIn t) = Unit {0}
   IsOfCell ClockEnable = Unit {0}
@@ -98,12 +101,25 @@ io_of_cell parts t name io =
     (λ e. cond_both (bytes_eq name (codes "io_1/D_IN_0")) (Some (PadInput (record { tile = t; pio = 1 }))) _ (IsOfCellIf parts) (λ f. record { io = io; pio = omega arith })
     (λ f. cond_both (bytes_eq name in_out_enable_name) (Some ClockEnable) _ (IsOfCellIf parts) (λ g. tt) (λ g. global_of_cell parts name)))
 
+either_role_of_cell : (parts : Parts) (role other : Option Role) → IsOfCellIf parts role → IsOfCellIf parts other → IsOfCellIf parts (option_or role other)
+either_role_of_cell parts None other fits rest = rest
+either_role_of_cell parts (Some role) other fits rest = fits
+
+ram_of_cell : (parts : Parts) (t : TileAt) (kind : TileKind) (name : List ℕ) → IsOfCellIf parts (ram_role t kind name)
+ram_of_cell parts t kind name = either_role_of_cell parts (option_and_then (ram_wire_role t kind) (ram_number name)) (global_role name) (by (ram_number name)) (global_of_cell parts name)
+  where
+    by : (o : Option ℕ) → IsOfCellIf parts (option_and_then (ram_wire_role t kind) o)
+    by None = tt
+    by (Some n) =
+        cond_both (has_ram_wire kind n && is_read_out n) (Some (RamOutput (pin_at t n))) _ (IsOfCellIf parts) (λ e. omega arith)
+        (λ e. cond_both (has_ram_wire kind n && is_clock_enable n) (Some ClockEnable) None (IsOfCellIf parts) (λ f. tt) (λ f. tt))
+
 in_of_cell : (parts : Parts) (t : TileAt) (kind : Option TileKind) (name : List ℕ) → kind_at parts t ≡ kind → IsOfCellIf parts (role_in t kind name)
 in_of_cell parts t None name e = tt
 in_of_cell parts t (Some Io) name e = io_of_cell parts t name e
 in_of_cell parts t (Some Logic) name e = logic_of_cell parts t name e
-in_of_cell parts t (Some RamBottom) name e = global_of_cell parts name
-in_of_cell parts t (Some RamTop) name e = global_of_cell parts name
+in_of_cell parts t (Some RamBottom) name e = ram_of_cell parts t RamBottom name
+in_of_cell parts t (Some RamTop) name e = ram_of_cell parts t RamTop name
 
 either_of_cell : (parts : Parts) (role : Option Role) (other : Role) → IsOfCellIf parts role → IsOfCell parts other → IsOfCell parts (role_or role other)
 either_of_cell parts None other fits rest = rest

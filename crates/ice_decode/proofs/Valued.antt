@@ -14,7 +14,8 @@ use Rattle.ice_decode.specs.declared.point.Point.{Point}
 use Rattle.ice_decode.specs.declared.fault.DecodeFault.{DecodeFault}
 use Rattle.ice_decode.specs.declared.fault.DecodeFault.TheVariants.{Contention, ForeignSource, ForeignFunction, ForeignExtra, ChipLoop, PinType, NoMemory}
 use Rattle.ice_decode.specs.Cells.{logic_tiles}
-use Rattle.ice_decode.specs.Reads.{points, count_points, reads_at}
+use Rattle.ice_decode.specs.Reads.{count_points, reads_at}
+use Rattle.ice_decode.specs.Points.{points}
 use Rattle.ice_decode.specs.Meaning.{makes_at, chip_system, point_level}
 use Rattle.ice_decode.specs.Loops.{IsOrderOf}
 use Rattle.ice_decode.specs.Refusals.{CircuitData, IsCircuitOf, IsFaultless, IsFaultOf}

@@ -1,21 +1,21 @@
--- What a wire is: what drives it through the rows of switches that are on, and what it is at cells and pads by its names.
-use Rattle.std.specs.Prelude.{ℕ, ◌-◌, ◌==◌, Option, None, Some, List, [], ◌∷◌, filter, filter_map, option_map, slice_get, codes, bytes_eq, if◌then◌else◌, slice_index_or}
-use Rattle.std.specs.Option.{option_and_then}
+-- What a wire is: what drives it through the rows of switches that are on, and what it is at cells, pads and block RAMs by its names.
+use Rattle.std.specs.Prelude.{ℕ, ◌-◌, ◌==◌, ◌&&◌, Option, None, Some, List, [], ◌∷◌, filter, filter_map, option_map, slice_get, codes, bytes_eq, if◌then◌else◌, slice_index_or}
+use Rattle.std.specs.Option.{option_and_then, option_or}
 use Rattle.ice_chip.specs.Database.{Parts, SwitchGroup, SwitchRow}
 use Rattle.ice_bits.specs.Configuration.{Bits}
 use Rattle.ice_bits.specs.Settings.{row_on}
-use Rattle.ice_base.specs.declared.number.RowNo.{RowNo}
 use Rattle.ice_decode.specs.declared.driver.Switch.{Switch}
 use Rattle.ice_decode.specs.declared.driver.Driver.{Driver}
 use Rattle.ice_decode.specs.declared.driver.Driver.TheVariants.{Nothing, By, Several}
 use Rattle.ice_base.specs.declared.number.TileAt.{TileAt}
 use Rattle.ice_chip.specs.Lookups.{kind_at, names_of}
 use Rattle.ice_chip.specs.Names.{is_global_name, cell_pin, in_out_enable_name}
+use Rattle.ice_chip.specs.RamNames.{has_ram_wire, ram_number, is_read_out, is_clock_enable, pin_at}
 use Rattle.ice_chip.specs.declared.rows.TileKind.{TileKind}
 use Rattle.ice_chip.specs.declared.rows.TileKind.TheVariants.{Io, Logic}
 use Rattle.ice_chip.specs.declared.placed.PlacedName.{PlacedName}
 use Rattle.ice_decode.specs.declared.role.Role.{Role}
-use Rattle.ice_decode.specs.declared.role.Role.TheVariants.{Plain, Output, LookUp, CarryOut, PadInput, Global, CarryIn, ClockEnable}
+use Rattle.ice_decode.specs.declared.role.Role.TheVariants.{Plain, Output, LookUp, CarryOut, PadInput, RamOutput, Global, CarryIn, ClockEnable}
 
 -- a row of a group as a switch
 abbrev pub switch : SwitchGroup → ℕ → SwitchRow → Switch
@@ -45,12 +45,6 @@ driver_among (s ∷ r ∷ others) = Several s.row r.row
 -- the driver of a wire: its one row that is on, or none, or the first two of several
 abbrev pub driver : Parts → Bits → ℕ → Driver
 driver parts bits w = driver_among (into w (switches_on bits parts.groups))
-
--- the number of the one row that drives a wire
-abbrev pub row_of : Driver → Option RowNo
-row_of Nothing = None
-row_of (By s) = Some s.row
-row_of (Several first second) = None
 
 -- the number that the digit at a place of a name has
 abbrev pub number_at : List ℕ → ℕ → ℕ
@@ -87,12 +81,23 @@ io_role t name =
     else (if bytes_eq name in_out_enable_name then Some ClockEnable
     else global_role name))
 
+-- the role of the wire of this number of a block RAM in one of its two tiles
+abbrev pub ram_wire_role : TileAt → TileKind → ℕ → Option Role
+ram_wire_role t kind n =
+    if has_ram_wire kind n && is_read_out n then Some (RamOutput (pin_at t n))
+    else (if has_ram_wire kind n && is_clock_enable n then Some ClockEnable
+    else None)
+
+-- the role of a name in a tile of a block RAM
+abbrev pub ram_role : TileAt → TileKind → List ℕ → Option Role
+ram_role t kind name = option_or (option_and_then (ram_wire_role t kind) (ram_number name)) (global_role name)
+
 -- the role of a name in a tile of a kind
 abbrev pub role_in : TileAt → Option TileKind → List ℕ → Option Role
 role_in t None name = None
 role_in t (Some Io) name = io_role t name
 role_in t (Some Logic) name = logic_role t name
-role_in t (Some memory) name = global_role name
+role_in t (Some memory) name = ram_role t memory name
 
 abbrev pub role_or : Option Role → Role → Role
 role_or None other = other

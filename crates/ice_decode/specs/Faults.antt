@@ -21,8 +21,9 @@ use Rattle.ice_decode.specs.Reads.{depends_on}
 abbrev pub is_memory_output : List ℕ → Bool
 is_memory_output name = starts_with nat_eq name (codes "ram/RDATA_")
 
-abbrev pub is_foreign_wire : Parts → ℕ → Bool
-is_foreign_wire parts w = list_any (λ n. is_memory_output n.name) (names_of parts w)
+-- the output of a memory
+abbrev pub is_memory_wire : Parts → ℕ → Bool
+is_memory_wire parts w = list_any (λ n. is_memory_output n.name) (names_of parts w)
 
 -- ---- what is read of pads
 -- a row that is on reads the wire
@@ -38,7 +39,7 @@ is_input_read parts bits pad = is_wire_read parts bits (wire_named parts pad.til
 abbrev pub uses_register : Parts → Bits → Pad → Bool
 uses_register parts bits pad = has_output_register parts bits pad || (has_input_register parts bits pad && is_input_read parts bits pad)
 
--- ---- functions of PLLs, of pairs of pads and of registers of pads
+-- ---- functions of PLLs, of pairs of pads, of cascades of block RAMs and of registers of pads
 -- a foreign function of this name counts in the tile: the falling clock of registers of pads only beside one that is in use
 abbrev pub counts_in : Parts → Bits → TileAt → List ℕ → Bool
 counts_in parts bits t name = not (bytes_eq name falling_clock_function) || list_any (uses_register parts bits) (pads_in t)

@@ -11,7 +11,8 @@ use Rattle.ice_decode.specs.declared.driver.Driver.{Driver}
 use Rattle.ice_decode.specs.declared.driver.Driver.TheVariants.{Nothing, By, Several}
 use Rattle.ice_decode.specs.Drivers.{switches_on, driver}
 use Rattle.ice_decode.specs.Pads.{pads}
-use Rattle.ice_decode.specs.Faults.{is_foreign_wire, is_set_in, has_wrong_type}
+use Rattle.ice_decode.specs.Faults.{is_memory_wire, is_set_in, has_wrong_type}
+use Rattle.ice_decode.specs.ForeignSources.{is_foreign_wire}
 use Rattle.ice_decode.specs.Direct.{is_padin}
 
 abbrev pub or_else : {A : Type 0} → Option A → Option A → Option A
@@ -35,9 +36,13 @@ abbrev pub contention : Parts → Bits → Option (ℕ × ℕ × ℕ)
 contention parts bits = first_of (λ w. contended_by w (driver parts bits w)) 0 parts.wires
 
 -- ---- the others
--- the source of the first row that is on whose source is the output of a memory
+-- the source of the first row that is on whose source is the output of a memory that is no block RAM in use
 abbrev pub foreign_source : Parts → Bits → Option ℕ
-foreign_source parts bits = option_map (λ (s : Switch). s.source.0) (find (λ (s : Switch). is_foreign_wire parts s.source.0) (switches_on bits parts.groups))
+foreign_source parts bits = option_map (λ (s : Switch). s.source.0) (find (λ (s : Switch). is_foreign_wire parts bits s.source.0) (switches_on bits parts.groups))
+
+-- the source of the first row that is on whose source is the output of a memory, in use or not
+abbrev pub memory_source : Parts → Bits → Option ℕ
+memory_source parts bits = option_map (λ (s : Switch). s.source.0) (find (λ (s : Switch). is_memory_wire parts s.source.0) (switches_on bits parts.groups))
 
 -- the tile and the function's line
 abbrev pub foreign_in : Parts → Bits → TileAt × TileLine → Option (TileAt × ℕ)

@@ -13,8 +13,10 @@ use Rattle.ice_decode.specs.declared.driver.Driver.TheVariants.{Nothing, Several
 use Rattle.ice_decode.specs.declared.fault.DecodeFault.{DecodeFault}
 use Rattle.ice_decode.specs.declared.fault.DecodeFault.TheVariants.{NoMemory}
 use Rattle.ice_decode.specs.Cells.{logic_tiles}
-use Rattle.ice_decode.specs.Drivers.{driver, row_of}
-use Rattle.ice_decode.specs.Reads.{points, count_points, reads_at}
+use Rattle.ice_decode.specs.Drivers.{driver}
+use Rattle.ice_decode.specs.DrivingRows.{row_of}
+use Rattle.ice_decode.specs.Reads.{count_points, reads_at}
+use Rattle.ice_decode.specs.Points.{points}
 use Rattle.ice_decode.specs.Meaning.{makes_at, chip_system, point_level}
 use Rattle.ice_decode.specs.Loops.{IsOrderOf}
 use Rattle.ice_decode.specs.Refusals.{CircuitData, IsCircuitOf, IsFaultless, IsFaultOf}

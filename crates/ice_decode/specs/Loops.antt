@@ -5,7 +5,8 @@ use Rattle.ice_bits.specs.Configuration.{Bits}
 use Rattle.ice_base_values.specs.Order.{Has, IsCycle, StandOnce, StandsAfter}
 use Rattle.ice_decode.specs.declared.point.Point.{Point}
 use Rattle.ice_decode.specs.declared.point.Point.TheVariants.{Wire, Carry}
-use Rattle.ice_decode.specs.Reads.{points, depends_on}
+use Rattle.ice_decode.specs.Reads.{depends_on}
+use Rattle.ice_decode.specs.Points.{points}
 
 -- the wires among these points, in their order
 abbrev pub wires_among : List Point → List ℕ

@@ -1,5 +1,5 @@
 -- What configuration bits mean: the level of each point of the chip, and one step. It is the meaning of bits without a fault.
-use Rattle.std.specs.Prelude.{ℕ, ◌+◌, ◌/◌, ◌&&◌, Bool, true, false, Option, None, Some, List, [], ◌∷◌, map, if◌then◌else◌, codes, slice_index_or, unwrap_or}
+use Rattle.std.specs.Prelude.{ℕ, ◌+◌, ◌-◌, ◌/◌, ◌==◌, ◌&&◌, nat_lt, Bool, true, false, Option, None, Some, List, [], ◌∷◌, map, if◌then◌else◌, codes, slice_index_or, unwrap_or}
 use Rattle.std.specs.List.{zip}
 use Rattle.ice_base.specs.declared.number.TileAt.{TileAt}
 use Rattle.ice_base_values.specs.System.{System, value, gapped, reading, machine_shows}
@@ -11,7 +11,9 @@ use Rattle.ice_chip.specs.declared.placed.PlacedName.{PlacedName}
 use Rattle.ice_bits.specs.Configuration.{Bits}
 use Rattle.ice_bits.specs.Settings.{set_at}
 use Rattle.ice_net.specs.declared.driver.Drive.{Drive}
+use Rattle.ice_net.specs.declared.driver.Drive.TheVariants.{Off}
 use Rattle.ice_net.specs.declared.kind.Reset.TheVariants.{Nothing as NeitherWay}
+use Rattle.ice_net.specs.Drives.{level_drive}
 use Rattle.ice_net.specs.Kinds.{is_edge, fired}
 use Rattle.ice_net.specs.Meaning.{State, majority}
 use Rattle.ice_decode.specs.declared.point.Point.{Point}
@@ -20,14 +22,13 @@ use Rattle.ice_decode.specs.declared.driver.Switch.{Switch}
 use Rattle.ice_decode.specs.declared.driver.Driver.{Driver}
 use Rattle.ice_decode.specs.declared.driver.Driver.TheVariants.{Nothing, By, Several}
 use Rattle.ice_decode.specs.declared.role.Role.{Role}
-use Rattle.ice_decode.specs.declared.role.Role.TheVariants.{Plain, Output, LookUp, CarryOut, PadInput, Global, CarryIn, ClockEnable}
+use Rattle.ice_decode.specs.declared.role.Role.TheVariants.{Plain, Output, LookUp, CarryOut, PadInput, RamOutput, Global, CarryIn, ClockEnable}
+use Rattle.ice_chip.specs.RamNames.{ram_name}
 use Rattle.ice_decode.specs.Drivers.{role_of, number_at, driver}
-pub use Rattle.ice_decode.specs.Cells.{tile_place}
 use Rattle.ice_decode.specs.Cells.{has_flop, reset_of, looked_up}
 use Rattle.ice_decode.specs.Direct.{takes_pad}
-pub use Rattle.ice_decode.specs.Pads.{kept_at}
-use Rattle.ice_decode.specs.Pads.{Store, CellStore, InputStore, OutputStore, stores, input_kept, output_kept, has_input_register, has_output_register, pad_gives, pin_type, pin_level, part_drive}
-use Rattle.ice_decode.specs.Reads.{reads_at, cell_inputs, count_points}
+use Rattle.ice_decode.specs.Pads.{Store, CellStore, InputStore, OutputStore, stores, kept_at, input_kept, output_kept, has_input_register, has_output_register, level_of, pad_gives, pin_type, pin_level, part_drive}
+use Rattle.ice_decode.specs.Reads.{cell_inputs, count_points, reads_at}
 
 -- ---- column buffers
 -- the number of the global whose name stands among these at a place
@@ -66,6 +67,7 @@ role_makes parts bits extras bonded levels kept (Output t i) xs = if has_flop pa
 role_makes parts bits extras bonded levels kept (LookUp t i) xs = looked_up parts bits t i xs
 role_makes parts bits extras bonded levels kept (CarryOut t i) xs = first_level xs
 role_makes parts bits extras bonded levels kept (PadInput pad) xs = if has_input_register parts bits pad then input_kept parts kept pad else pad_gives parts bits bonded levels pad
+role_makes parts bits extras bonded levels kept (RamOutput pad) xs = level_of bonded levels pad
 role_makes parts bits extras bonded levels kept (Global n) xs = if takes_pad parts extras n then global_gives parts bits bonded levels (gbufpin_of parts n) else first_level xs
 role_makes parts bits extras bonded levels kept (CarryIn t) xs = set_at parts bits t (codes "CarryInSet") 0
 role_makes parts bits extras bonded levels kept ClockEnable xs = true
@@ -137,10 +139,25 @@ state_after parts bits bonded levels v state = record {
   clocks = map (clock_after parts bits v) (stores parts);
 }
 
--- what the chip drives a pad with, by the levels of points and what is kept
+-- what the chip drives a pad of an IO tile with, by the levels of points and what is kept
+abbrev pub pad_drive : Parts → Bits → List Bool → (Point → Bool) → Pad → Drive
+pad_drive parts bits kept v pad =
+    part_drive (pin_type parts bits pad / 4) (pin_level false parts v pad.tile (pad_output_name pad.pio)) (pin_level false parts v pad.tile (output_enable_name pad.pio)) (output_kept parts kept pad)
+
+-- whether the pin of this number of a block RAM is driven: those that enable a port, `ram/RE` and `ram/WE`, where the port's clock is
+-- enabled, and all others always. An enable of a clock that has no wire, or one that nothing drives, reads 1.
+abbrev pub is_ram_driven : Parts → (Point → Bool) → TileAt → ℕ → Bool
+is_ram_driven parts v t n =
+    if n == 72 then pin_level true parts v t (ram_name 74) else (if n == 73 then pin_level true parts v t (ram_name 75) else true)
+
+-- what the chip drives the pin of this number of a block RAM with: the level of its wire
+abbrev pub ram_drive : Parts → (Point → Bool) → TileAt → ℕ → Drive
+ram_drive parts v t n = if is_ram_driven parts v t n then level_drive (pin_level false parts v t (ram_name n)) else Off
+
+-- what the chip drives a pad with: pads 0 and 1 are those of IO tiles, and the pins of a block RAM follow
 abbrev pub drive_at : Parts → Bits → List Bool → (Point → Bool) → Pad → Drive
 drive_at parts bits kept v pad =
-    part_drive (pin_type parts bits pad / 4) (pin_level false parts v pad.tile (pad_output_name pad.pio)) (pin_level false parts v pad.tile (output_enable_name pad.pio)) (output_kept parts kept pad)
+    if nat_lt pad.pio 2 then pad_drive parts bits kept v pad else (if nat_lt pad.pio 78 then ram_drive parts v pad.tile (pad.pio - 2) else Off)
 
 -- One step: all levels are taken with what was kept before it. `bonded` are the pads of the package, which have the levels, and `shown`
 -- those whose drives are told.

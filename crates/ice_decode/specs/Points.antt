@@ -7,8 +7,15 @@ use Rattle.ice_base_values.specs.Order.{Has, StandOnce}
 use Rattle.ice_base_values.specs.Graph.{depends_of}
 use Rattle.ice_decode.specs.declared.point.Point.{Point}
 use Rattle.ice_decode.specs.declared.point.Point.TheVariants.{Wire, Carry}
-use Rattle.ice_decode.specs.Cells.{cells_in}
-use Rattle.ice_decode.specs.Reads.{points, wire_point, carry_point}
+use Rattle.ice_decode.specs.Cells.{cells, cells_in}
+use Rattle.ice_decode.specs.Reads.{wire_point}
+
+abbrev pub carry_point : TileAt × ℕ → Point
+carry_point c = Carry c.0 c.1
+
+-- the points of a chip: its wires, and the carry of each logic cell
+abbrev pub points : Parts → List Point
+points parts = map wire_point (range_with_len 0 parts.wires) ++ map carry_point (cells parts)
 
 -- a wire is one of the chip
 abbrev pub HasWire : Parts → Point → Type 0

@@ -1,6 +1,5 @@
 -- What the points of a chip read. It depends on no level, whatever a table or a column buffer makes of what is read.
-use Rattle.std.specs.Prelude.{ℕ, ◌+◌, Option, None, Some, List, [], ◌∷◌, ◌++◌, map, length, option_map, if◌then◌else◌, codes}
-use Rattle.std.specs.List.{range_with_len}
+use Rattle.std.specs.Prelude.{ℕ, ◌+◌, Option, None, Some, List, [], ◌∷◌, length, option_map, if◌then◌else◌, codes}
 use Rattle.std.proofs.Common.{zero, suc}
 use Rattle.ice_base.specs.declared.number.TileAt.{TileAt}
 use Rattle.ice_chip.specs.Database.{Parts}
@@ -22,14 +21,7 @@ use Rattle.ice_decode.specs.Direct.{takes_pad}
 abbrev pub wire_point : ℕ → Point
 wire_point w = Wire (record { 0 = w })
 
-abbrev pub carry_point : TileAt × ℕ → Point
-carry_point c = Carry c.0 c.1
-
--- the points of a chip: its wires, and the carry of each logic cell
-abbrev pub points : Parts → List Point
-points parts = map wire_point (range_with_len 0 parts.wires) ++ map carry_point (cells parts)
-
--- how many there are: as many as wires, and eight for each logic tile
+-- how many points there are: as many as wires, and eight for each logic tile
 abbrev pub count_points : Parts → ℕ
 count_points parts = parts.wires + length (cells parts)
 

@@ -2,11 +2,12 @@
 use Rattle.std.specs.Prelude.{◌≡◌, ℕ, ◌==◌, ◌<◌, Bool, false, Option, List, map, find, length, option_map, slice_index_or}
 use Rattle.std.specs.List.{list_any, range_with_len}
 use Rattle.ice_chip.specs.Database.{Parts}
+use Rattle.ice_bits.specs.Configuration.{Bits}
 use Rattle.ice_decode.specs.declared.driver.Switch.{Switch}
 use Rattle.ice_decode.specs.declared.driver.Driver.{Driver}
 use Rattle.ice_decode.specs.declared.driver.Driver.TheVariants.{Nothing, By, Several}
 use Rattle.ice_decode.specs.Drivers.{into, driver_among}
-use Rattle.ice_decode.specs.Faults.{is_foreign_wire}
+use Rattle.ice_decode.specs.ForeignSources.{is_foreign_wire}
 use Rattle.ice_decode.specs.FirstFaults.{contended_by, first_of}
 use Rattle.ice_decode.specs.Direct.{takes_pad}
 
@@ -43,13 +44,13 @@ pub record AreSources (switches : List Switch) (sources : List Bool) : Type 0 wh
 abbrev pub contended_among : List Driver → Option (ℕ × ℕ × ℕ)
 contended_among drivers = first_of (λ w. contended_by w (slice_index_or drivers w Nothing)) 0 (length drivers)
 
--- a table of whether each wire is the output of a memory
-abbrev pub foreign_wires : Parts → List Bool
-foreign_wires parts = map (is_foreign_wire parts) (range_with_len 0 parts.wires)
+-- a table of whether each wire is an output of a memory that is no block RAM in use
+abbrev pub foreign_wires : Parts → Bits → List Bool
+foreign_wires parts bits = map (is_foreign_wire parts bits) (range_with_len 0 parts.wires)
 
--- the source of the first of these rows whose source is the output of a memory
-abbrev pub foreign_source_of : Parts → List Switch → Option ℕ
-foreign_source_of parts switches = option_map (λ (s : Switch). s.source.0) (find (λ (s : Switch). is_foreign_wire parts s.source.0) switches)
+-- the source of the first of these rows whose source is such an output
+abbrev pub foreign_source_of : Parts → Bits → List Switch → Option ℕ
+foreign_source_of parts bits switches = option_map (λ (s : Switch). s.source.0) (find (λ (s : Switch). is_foreign_wire parts bits s.source.0) switches)
 
 -- a table of whether each global has the level of a pad
 abbrev pub AreDirect : Parts → List (ℕ × ℕ × ℕ) → List Bool → Type 0

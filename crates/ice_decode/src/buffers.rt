@@ -4,7 +4,7 @@ ghost use Rattle.ice_chip.specs.Lookups.{names_of, colbuf_of};
 ghost use Rattle.ice_bits.specs.Configuration.{bits_of};
 ghost use Rattle.ice_chip.specs.WireNames.{global_name};
 ghost use Rattle.ice_decode.specs.GlobalNames.{is_named, global_named};
-ghost use Rattle.ice_decode.specs.Meaning.{global_at, lets_through, passes_global, passes};
+ghost use Rattle.ice_decode.specs.Meaning.{global_at, lets_through, passes};
 
 use crate::Switch;
 use crate::settings::setting;

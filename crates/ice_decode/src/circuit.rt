@@ -3,7 +3,7 @@ ghost use Rattle.std.specs.Prelude.{◌≡◌, ◌<◌, Some, false, length, map
 ghost use Rattle.ice_chip.specs.Database.{Parts};
 ghost use Rattle.ice_bits.specs.Configuration.{bits_of};
 ghost use Rattle.ice_decode.specs.Direct.{takes_pad};
-ghost use Rattle.ice_decode.specs.Drivers.{row_of};
+ghost use Rattle.ice_decode.specs.DrivingRows.{row_of};
 ghost use Rattle.ice_decode.specs.Laws.{IsDriverOf};
 ghost use Rattle.ice_decode.specs.Refusals.{CircuitData, IsCircuitOf};
 

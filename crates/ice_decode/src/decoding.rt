@@ -22,8 +22,12 @@ use ice_bits::Bits;
 use ice_chip::Chip;
 use std::alloc::Global;
 
-// Looks for a contended wire.
-fn check_contention(chip: &Chip, bits: &Bits, drivers: &[Driver]) -> Result<(), DecodeFault>
+/// Looks for a contended wire.
+pub(crate) fn check_contention(
+    chip: &Chip,
+    bits: &Bits,
+    drivers: &[Driver],
+) -> Result<(), DecodeFault>
     requires { AreDrivers chip.now (bits_of bits.now) drivers.now }
     ensures none { OnOk result (contention chip.now (bits_of bits.now) ≡ None) }
     ensures fault { IfErr result (IsFaultOf chip.now (bits_of bits.now) bits.now.extras) }
@@ -54,7 +58,7 @@ fn check_foreign(
     ensures fault { IfErr result (IsFaultOf chip.now (bits_of bits.now) bits.now.extras) }
 {
     chip.is_chip();
-    if let Some(wire) = foreign_source(alloc, chip, switches)? {
+    if let Some(wire) = foreign_source(alloc, chip, bits, switches)? {
         return Err(DecodeFault::ForeignSource { wire });
     }
     if let Some((tile, line)) = foreign_function(alloc, chip, bits, sources)? {

@@ -19,13 +19,13 @@ pub enum DecodeFault {
         /// The first two rows into it that are on.
         rows: (RowNo, RowNo),
     },
-    /// A row is on whose source is this wire, an output of a memory; the least such row.
+    /// A row is on whose source is this wire, an output of a memory that is no block RAM in use; the least such row.
     #[error("a memory drives a wire")]
     ForeignSource {
         /// The source of the row.
         wire: WireNo,
     },
-    /// A bit of a function of a PLL or of a pair of pads, or the falling clock of a register of a pad that is in use, is set in this tile,
+    /// A bit of a function of a PLL, of a pair of pads or of a cascade of block RAMs, or the falling clock of a register of a pad that is in use, is set in this tile,
     /// the function of this line; the first in the order of tiles and then of lines.
     #[error("line {line}: a function of a PLL or of pads is set")]
     ForeignFunction {

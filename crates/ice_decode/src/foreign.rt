@@ -1,10 +1,12 @@
-//! What no circuit holds: outputs of memories, functions of PLLs and of pairs of pads, and falling clocks of registers of pads.
-ghost use Rattle.std.specs.Prelude.{◌≡◌, ◌<◌, [], All, map, find, option_map, IfOk, OnOk};
+//! What no circuit holds: outputs of memories that are no block RAMs in use, functions of PLLs, of pairs of pads and of cascades of block
+//! RAMs, and falling clocks of registers of pads.
+ghost use Rattle.std.specs.Prelude.{◌≡◌, ◌<◌, [], All, map, option_map, IfOk, OnOk};
 ghost use Rattle.std.specs.List.{list_any};
 ghost use Rattle.ice_chip.specs.Views.{function_view};
 ghost use Rattle.ice_bits.specs.Configuration.{bits_of};
 ghost use Rattle.ice_decode.specs.Drivers.{switches_on};
-ghost use Rattle.ice_decode.specs.Faults.{is_memory_output, is_foreign_wire, counts_in};
+ghost use Rattle.ice_decode.specs.Faults.{is_memory_output, counts_in};
+ghost use Rattle.ice_decode.specs.ForeignSources.{is_foreign_wire, is_foreign_name};
 ghost use Rattle.ice_decode.specs.FirstFaults.{foreign_function};
 ghost use Rattle.ice_decode.specs.Tables.{IsBetween, AreSources, foreign_wires, foreign_source_of};
 ghost use Rattle.ice_decode.specs.ForeignTiles.{is_set_at, foreign_at};
@@ -12,83 +14,95 @@ ghost use Rattle.ice_decode.specs.ForeignPlaces.{with_places, foreign_places};
 
 use crate::Switch;
 use crate::pin_types::uses_registers;
+use crate::rams_in_use::is_given;
 use ice_base::{BitAt, NoMemory, TileAt, WireNo};
 use ice_bits::Bits;
-use ice_chip::{Chip, Function, Tile, TileKind, falling_clock_function, is_foreign, same_kind};
+use ice_chip::{
+    Chip, Function, PlacedName, Tile, TileKind, falling_clock_function, is_foreign, same_kind,
+};
 use indexmap::IndexSet;
 use std::alloc::Global;
 
-// Whether this is a name of what a memory reads out.
-fn is_memory_output(name: &[u8]) -> bool
+/// Whether this is a name of what a memory reads out.
+pub(crate) fn is_memory_output(name: &[u8]) -> bool
     ensures { result ≡ is_memory_output name.now }
 {
     name.starts_with(b"ram/RDATA_".as_slice())
 }
 
-// Whether a wire is an output of a memory.
-fn is_foreign_wire(chip: &Chip, wire: WireNo) -> bool
+// Whether this is a name of an output of a memory that is no block RAM in use.
+fn is_foreign_name(chip: &Chip, bits: &Bits, placed: &PlacedName) -> bool
+    ensures { result ≡ is_foreign_name chip.now (bits_of bits.now) placed.now }
+{
+    is_memory_output(placed.name.as_bytes()) && !is_given(chip, bits, placed)
+}
+
+// Whether a wire is an output of a memory that is no block RAM in use.
+fn is_foreign_wire(chip: &Chip, bits: &Bits, wire: WireNo) -> bool
     requires { wire.0 < chip.now.wires }
-    ensures { result ≡ is_foreign_wire chip.now wire.0 }
+    ensures { result ≡ is_foreign_wire chip.now (bits_of bits.now) wire.0 }
 {
     for placed in chip.names(wire) {
-        if is_memory_output(placed.name.as_bytes()) {
+        if is_foreign_name(chip, bits, placed) {
             return true;
         }
     }
     false
 }
 
-// Whether each wire is an output of a memory: the names of a wire are gone through once, however many rows read it.
-fn foreign_wires(alloc: Global, chip: &Chip) -> Result<Vec<bool>, NoMemory>
-    ensures { IfOk result (λ foreign. foreign.items ≡ foreign_wires chip.now) }
+// Whether each wire is such an output: the names of a wire are gone through once, however many rows read it.
+fn foreign_wires(alloc: Global, chip: &Chip, bits: &Bits) -> Result<Vec<bool>, NoMemory>
+    ensures { IfOk result (λ foreign. foreign.items ≡ foreign_wires chip.now (bits_of bits.now)) }
 {
     let mut foreign = Vec::with_capacity(alloc, chip.wires() as usize)?;
     for wire in 0..chip.wires() {
-        foreign.push(is_foreign_wire(chip, WireNo(wire)))?;
+        foreign.push(is_foreign_wire(chip, bits, WireNo(wire)))?;
     }
     Ok(foreign)
 }
 
-// Whether a wire is an output of a memory, by the table of all wires.
-fn is_marked(chip: &Chip, foreign: &[bool], wire: WireNo) -> bool
-    requires foreign { foreign.now ≡ foreign_wires chip.now }
+// Whether a wire is such an output, by the table of all wires.
+fn is_marked(chip: &Chip, bits: &Bits, foreign: &[bool], wire: WireNo) -> bool
+    requires foreign { foreign.now ≡ foreign_wires chip.now (bits_of bits.now) }
     requires wire { wire.0 < chip.now.wires }
-    ensures { result ≡ is_foreign_wire chip.now wire.0 }
+    ensures { result ≡ is_foreign_wire chip.now (bits_of bits.now) wire.0 }
 {
-    let _chip = chip;
+    let (_chip, _bits) = (chip, bits);
     foreign[wire.0 as usize]
 }
 
-// The source of the first of these rows whose source is an output of a memory, by the table of all wires.
+// The source of the first of these rows whose source is such an output, by the table of all wires.
 #[tactic(auto, using(crate::proofs::DriverTables::source_below))]
-fn first_foreign(chip: &Chip, foreign: &[bool], switches: &[Switch]) -> Option<WireNo>
-    requires foreign { foreign.now ≡ foreign_wires chip.now }
+fn first_foreign(chip: &Chip, bits: &Bits, foreign: &[bool], switches: &[Switch]) -> Option<WireNo>
+    requires foreign { foreign.now ≡ foreign_wires chip.now (bits_of bits.now) }
     requires switches { All (IsBetween chip.now.wires) switches.now }
-    ensures { option_map (λ wire. wire.0) result ≡ foreign_source_of chip.now switches.now }
+    ensures { option_map (λ wire. wire.0) result
+        ≡ foreign_source_of chip.now (bits_of bits.now) switches.now }
 {
     for switch in switches {
-        if is_marked(chip, foreign, switch.source) {
+        if is_marked(chip, bits, foreign, switch.source) {
             return Some(switch.source);
         }
     }
     None
 }
 
-/// The source of the first of these rows whose source is an output of a memory.
+/// The source of the first of these rows whose source is an output of a memory that is no block RAM in use.
 ///
 /// # Errors
 /// Want of memory alone.
 pub(crate) fn foreign_source(
     alloc: Global,
     chip: &Chip,
+    bits: &Bits,
     switches: &[Switch],
 ) -> Result<Option<WireNo>, NoMemory>
     requires { All (IsBetween chip.now.wires) switches.now }
-    ensures { IfOk result (λ source.
-        option_map (λ wire. wire.0) source ≡ foreign_source_of chip.now switches.now) }
+    ensures { IfOk result (λ source. option_map (λ wire. wire.0) source
+        ≡ foreign_source_of chip.now (bits_of bits.now) switches.now) }
 {
-    let foreign = foreign_wires(alloc, chip)?;
-    Ok(first_foreign(chip, &foreign, switches))
+    let foreign = foreign_wires(alloc, chip, bits)?;
+    Ok(first_foreign(chip, bits, &foreign, switches))
 }
 
 // Whether one of these bits of a tile is 1.
@@ -182,7 +196,7 @@ fn foreign_in(
     ensures { result
         ≡ foreign_at chip.now (map function_view functions.now) (bits_of bits.now) tile }
 {
-    if !same_kind(TileKind::Io, tile.kind) {
+    if same_kind(TileKind::Logic, tile.kind) {
         return None;
     }
     if !has_one(bits, tile.at, places) {

@@ -1,12 +1,10 @@
 //! The points of a chip by numbers: the wires first, then eight carries for each logic tile.
 ghost use Rattle.std.specs.Prelude.{◌≡◌, ◌<◌, ◌++◌, Some, All, [], ◌∷◌, length, map, slice_get, IfOk, OnOk};
-ghost use Rattle.std.specs.List.{range_with_len};
 ghost use Rattle.ice_base_values.specs.System.{present};
 ghost use Rattle.ice_base_values.specs.Order.{At, Has};
 ghost use Rattle.ice_chip.specs.IsRead.{IsChip};
 ghost use Rattle.ice_decode.specs.Cells.{cells_in};
-ghost use Rattle.ice_decode.specs.Reads.{carry_point};
-ghost use Rattle.ice_decode.specs.Points.{points_by, AreAllPoints, IsNumbered};
+ghost use Rattle.ice_decode.specs.Points.{carry_point, points_by, AreAllPoints, IsNumbered};
 ghost use Rattle.ice_decode.specs.Different.{different};
 
 use crate::Point;

@@ -1,5 +1,5 @@
 //! What the points of a chip read.
-ghost use Rattle.std.specs.Prelude.{◌≡◌, ◌<◌, ◌++◌, ◌∷◌, [], length, OnOk, if◌then◌else◌};
+ghost use Rattle.std.specs.Prelude.{◌≡◌, ◌<◌, ◌++◌, ◌∷◌, [], OnOk, if◌then◌else◌};
 ghost use Rattle.ice_bits.specs.Configuration.{bits_of};
 ghost use Rattle.ice_chip.specs.Names.{input_name};
 ghost use Rattle.ice_decode.specs.Drivers.{driver, role_of};
@@ -140,7 +140,11 @@ fn add_role_reads(
         ≡ inputs.old.items ++ role_reads chip.now (bits_of bits.now) bits.now.extras role) }
 {
     match role {
-        Role::Plain | Role::PadInput(_) | Role::CarryIn(_) | Role::ClockEnable => Ok(()),
+        Role::Plain
+        | Role::PadInput(_)
+        | Role::RamOutput(_)
+        | Role::CarryIn(_)
+        | Role::ClockEnable => Ok(()),
         Role::Output { tile, cell } => add_output_reads(chip, bits, tile, cell, inputs),
         Role::LookUp { tile, cell } => add_inputs(chip, tile, cell, inputs),
         Role::CarryOut { tile, cell } => {

@@ -1,10 +1,14 @@
 //! What a wire is, by its names.
 ghost use Rattle.std.specs.Prelude.{◌≡◌, ◌<◌};
-ghost use Rattle.ice_decode.specs.Drivers.{number_at, global_role, output_role, or_global, logic_role, io_role, role_in, role_of};
+ghost use Rattle.ice_decode.specs.Drivers.{number_at, global_role, output_role, or_global, logic_role, io_role, role_in, role_of, ram_wire_role, ram_role};
 
 use crate::Role;
 use ice_base::{TileAt, WireNo};
-use ice_chip::{Chip, Pad, TileKind, cell_pin, in_out_enable_name, is_global_name};
+use ice_chip::{
+    Chip, Pad, TileKind, cell_pin, has_ram_wire, in_out_enable_name, is_clock_enable,
+    is_global_name, is_read_out, ram_number,
+};
+use ice_chip_rams::pin_at;
 
 // The number that the digit at a place of a name has; 0 behind its end.
 fn number_at(name: &[u8], place: usize) -> u8
@@ -81,6 +85,33 @@ fn io_role(tile: TileAt, name: &[u8]) -> Option<Role>
     global_role(name)
 }
 
+// The role of the wire of this number of a block RAM in one of its two tiles.
+fn ram_wire_role(tile: TileAt, kind: TileKind, wire: u8) -> Option<Role>
+    requires { wire < 76 }
+    ensures { result ≡ ram_wire_role tile kind wire }
+{
+    if has_ram_wire(kind, wire) && is_read_out(wire) {
+        return Some(Role::RamOutput(pin_at(tile, wire)));
+    }
+    if has_ram_wire(kind, wire) && is_clock_enable(wire) {
+        return Some(Role::ClockEnable);
+    }
+    None
+}
+
+// The role of a name in a tile of a block RAM.
+fn ram_role(tile: TileAt, kind: TileKind, name: &[u8]) -> Option<Role>
+    ensures { result ≡ ram_role tile kind name.now }
+{
+    match ram_number(name) {
+        None => global_role(name),
+        Some(wire) => match ram_wire_role(tile, kind, wire) {
+            Some(role) => Some(role),
+            None => global_role(name),
+        },
+    }
+}
+
 // The role of a name in a tile of a kind.
 fn role_in(tile: TileAt, kind: Option<TileKind>, name: &[u8]) -> Option<Role>
     ensures { result ≡ role_in tile kind name.now }
@@ -89,8 +120,8 @@ fn role_in(tile: TileAt, kind: Option<TileKind>, name: &[u8]) -> Option<Role>
         None => None,
         Some(TileKind::Io) => io_role(tile, name),
         Some(TileKind::Logic) => logic_role(tile, name),
-        Some(TileKind::RamBottom) => global_role(name),
-        Some(TileKind::RamTop) => global_role(name),
+        Some(TileKind::RamBottom) => ram_role(tile, TileKind::RamBottom, name),
+        Some(TileKind::RamTop) => ram_role(tile, TileKind::RamTop, name),
     }
 }
 

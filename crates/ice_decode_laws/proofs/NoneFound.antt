@@ -9,11 +9,11 @@ use Rattle.ice_bits.specs.Configuration.{Bits}
 use Rattle.ice_decode.specs.declared.driver.Switch.{Switch}
 use Rattle.ice_decode.specs.Direct.{is_padin}
 use Rattle.ice_decode.specs.Drivers.{switches_on}
-use Rattle.ice_decode.specs.Faults.{is_foreign_wire, is_set_in, has_wrong_type}
+use Rattle.ice_decode.specs.Faults.{is_memory_wire, is_set_in, has_wrong_type}
 use Rattle.ice_decode.specs.FirstFaults.{or_else, foreign_in, first_foreign}
 use Rattle.ice_decode.specs.Pads.{pads}
 use Rattle.ice_decode.proofs.Driven.{uncontended}
-use Rattle.ice_decode_laws.specs.Faultless.{FaultlessHaveNone}
+use Rattle.ice_decode_laws.specs.Faultless.{PlainBitsHaveNoFault}
 
 -- ---- what is not found is not there
 passed_over : {X : Type 0} (test : X → Bool) (xs : List X) (i : ℕ) (x : X) → find test xs ≡ None → At xs i x → test x ≡ false
@@ -53,14 +53,16 @@ known : (b : Bool) → not b ≡ false → b ≡ true
 known true e = refl
 known false e = absurd (true≢false e)
 
-pub no_fault : FaultlessHaveNone
-no_fault parts bits extras is = record {
-  uncontended = λ w first second below. uncontended parts bits extras is w below first second;
-  sources = λ s has.
-      passed_over (λ (r : Switch). is_foreign_wire parts r.source.0) (switches_on bits parts.groups) has.0 s
-      (no_source (λ (r : Switch). r.source.0) (find (λ (r : Switch). is_foreign_wire parts r.source.0) (switches_on bits parts.groups)) is.of_chip.sources) has.1;
-  functions = λ tile f there has. not_set parts bits tile f (none_foreign parts bits parts.tiles there.0 tile is.of_chip.functions there.1) has;
-  extras_known = λ extra has. known (is_padin parts extra) (passed_over (λ e. not (is_padin parts e)) extras has.0 extra is.of_chip.extras_known has.1);
-  loopless = is.loopless;
-  types = λ pad has. passed_over (has_wrong_type parts bits) (pads parts) has.0 pad is.types has.1;
-}
+pub no_fault : PlainBitsHaveNoFault
+no_fault parts bits extras plain =
+    let is = plain.faultless in
+    record {
+      uncontended = λ w first second below. uncontended parts bits extras is w below first second;
+      sources = λ s has.
+          passed_over (λ (r : Switch). is_memory_wire parts r.source.0) (switches_on bits parts.groups) has.0 s
+          (no_source (λ (r : Switch). r.source.0) (find (λ (r : Switch). is_memory_wire parts r.source.0) (switches_on bits parts.groups)) plain.memories) has.1;
+      functions = λ tile f there has. not_set parts bits tile f (none_foreign parts bits parts.tiles there.0 tile is.of_chip.functions there.1) has;
+      extras_known = λ extra has. known (is_padin parts extra) (passed_over (λ e. not (is_padin parts e)) extras has.0 extra is.of_chip.extras_known has.1);
+      loopless = is.loopless;
+      types = λ pad has. passed_over (has_wrong_type parts bits) (pads parts) has.0 pad is.types has.1;
+    }

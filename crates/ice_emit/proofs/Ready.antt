@@ -76,7 +76,7 @@ false_or false y e = refl
 pub all_set : (parts : Parts) (rows : List RowNo) (made : List Setting) (extras : List (ℕ × ℕ × ℕ)) (empty some all whole : Configuration) → empty ≡ blank parts → Adds parts empty some (all_rows parts rows)
     → Adds parts some all (function_bits parts (map setting_view made)) → whole ≡ with_extras extras all → AreBitsWith parts rows made extras whole
 all_set parts rows made extras empty some all whole is one other more = record {
-  form = subst (IsOf parts) (sym more) (record { grids = other.form.grids; kinds = other.form.kinds });
+  form = subst (IsOf parts) (sym more) (record { grids = other.form.grids; kinds = other.form.kinds; contents = other.form.contents });
   extras_are = ap (λ (k : Configuration). k.extras) more ∙ ap (λ (before : List (ℕ × ℕ × ℕ)). before ++ extras) (other.extras ∙ one.extras ∙ ap (λ (k : Configuration). k.extras) is);
   bits = λ t b.
       ap (λ k. bits_of k t b) more ∙ other.bits t b

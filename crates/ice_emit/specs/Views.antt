@@ -17,7 +17,7 @@ rows_in tree = tree.rows.items
 
 -- these extra bits are behind the others, and nothing else changes
 abbrev pub with_extras : List (ℕ × ℕ × ℕ) → Configuration → Configuration
-with_extras more k = record { tiles = k.tiles; kinds = k.kinds; extras = k.extras ++ more }
+with_extras more k = record { tiles = k.tiles; kinds = k.kinds; extras = k.extras ++ more; contents = k.contents }
 
 -- bits of a chip of which those of these rows and settings and these extra bits are set, and no others
 pub record AreBitsWith (parts : Parts) (rows : List RowNo) (made : List Setting) (extras : List (ℕ × ℕ × ℕ)) (k : Configuration) : Type 0 where

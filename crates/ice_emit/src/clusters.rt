@@ -3,7 +3,7 @@ ghost use Rattle.std.specs.Prelude.{◌≡◌, ◌++◌, [], Some, slice_get, On
 ghost use Rattle.std.specs.Option.{option_map_or};
 ghost use Rattle.ice_chip.specs.Names.{cell_function};
 ghost use Rattle.ice_place_defs.specs.Loads.{slot_gives, slots_give};
-ghost use Rattle.ice_emit_defs.specs.Functions.{cell_settings, is_set, edge_settings, carry_settings, cluster_settings, clusters_settings};
+ghost use Rattle.ice_emit_defs.specs.Functions.{cell_settings, is_set, edge_settings, carry_settings, clusters_settings};
 ghost use Rattle.ice_emit.specs.Routed.{IsRouted, held_in, cluster_gives};
 ghost use Rattle.ice_emit_settings.specs.Views.{views};
 

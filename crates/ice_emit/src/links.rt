@@ -6,7 +6,7 @@ ghost use Rattle.ice_chip.specs.Lookups.{wire_named};
 ghost use Rattle.ice_chip.specs.Names.{input_name};
 ghost use Rattle.ice_chip.specs.WireNames.{carry_out_name};
 ghost use Rattle.ice_place_defs.specs.Loads.{slot_gives, slots_give};
-ghost use Rattle.ice_emit_defs.specs.Links.{tree_switch, link_into, carry_source, cell_links, chunk_links, cluster_links, all_links};
+ghost use Rattle.ice_emit_defs.specs.Links.{tree_switch, link_into, carry_source, cell_links, chunk_links, all_links};
 ghost use Rattle.ice_emit.specs.Links.{number, cluster_link};
 ghost use Rattle.ice_emit_settings.specs.Views.{switches};
 

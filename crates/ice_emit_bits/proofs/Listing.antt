@@ -4,7 +4,7 @@ use Rattle.std.specs.Prelude.{◌||◌}
 use Rattle.ice_base.specs.declared.number.RowNo.{RowNo}
 use Rattle.ice_chip.specs.Database.{Parts}
 use Rattle.ice_chip.specs.FunctionNames.{function_name}
-use Rattle.ice_chip.specs.declared.function_names.TileFunction.{TileFunction}
+use Rattle.ice_chip_names.specs.declared.function_names.TileFunction.{TileFunction}
 use Rattle.ice_bits.specs.Configuration.{Bits, Configuration}
 use Rattle.ice_emit_rows_laws.specs.Settings.{sets_one, function_bits}
 use Rattle.ice_emit_bits.specs.declared.settings.Setting.{Setting}

@@ -1,6 +1,6 @@
 -- Where bits of functions stand, and what it adds to set one.
-use Rattle.std.proofs.Common.{◌≡◌, ℕ, ◌<◌, Bool, true, false, Option, None, Some, List, length, refl, sym, ap, ◌∙◌, subst, arith}
-use Rattle.std.specs.Prelude.{◌&&◌, slice_get, find, All, nat_lt}
+use Rattle.std.proofs.Common.{◌≡◌, ℕ, ◌<◌, Bool, true, false, Option, None, Some, List, length, refl, sym, ap, ◌∙◌, subst}
+use Rattle.std.specs.Prelude.{◌&&◌, slice_get, nat_lt}
 use Rattle.std.specs.Option.{option_map_or, option_and_then}
 use Rattle.std.proofs.lemmas.Bool.{and_parts, lt-ltb}
 use Rattle.ice_base.specs.declared.bit.BitAt.{BitAt}
@@ -17,7 +17,7 @@ use Rattle.ice_chip.specs.Within.{IsBit, IsKept}
 use Rattle.ice_chip.specs.declared.rows.TileKind.{TileKind}
 use Rattle.ice_chip.specs.declared.rows.TileKind.TheVariants.{Io, Logic, RamBottom, RamTop}
 use Rattle.ice_chip_laws.specs.Groups.{HasGroups, HasRows}
-use Rattle.ice_bits.specs.Configuration.{Configuration, same_place, bits_of}
+use Rattle.ice_bits.specs.Configuration.{Configuration, same_place}
 use Rattle.ice_bits.specs.Grids.{IsOf, is_bit_of}
 use Rattle.ice_bits.specs.Settings.{function_bit}
 use Rattle.ice_emit_rows_laws.specs.Settings.{sets_one}

@@ -1,6 +1,5 @@
 //! Lists of rows and of bits of functions that are to be set.
-ghost use Rattle.std.specs.Prelude.{◌≡◌, map};
-ghost use Rattle.std.specs.List.{list_any};
+ghost use Rattle.std.specs.Prelude.{map};
 ghost use Rattle.ice_base.specs.declared.number.RowNo.{RowNo};
 ghost use Rattle.ice_bits.specs.Grids.{IsOf};
 ghost use Rattle.ice_emit_rows_laws.specs.Settings.{sets_one, function_bits};
@@ -12,7 +11,8 @@ use ice_base::{RowNo, TileAt};
 use ice_bits::Bits;
 use ice_chip::{
     Chip, TileFunction, carry_set_function, cell_function, column_buffer_function,
-    falling_clock_function, input_enable_function, pin_type_function, pull_up_function,
+    falling_clock_function, input_enable_function, pin_type_function, power_up_function,
+    pull_up_function, ram_mode_function,
 };
 
 /// A bit of a function that is to be set.
@@ -58,6 +58,14 @@ fn set(bits: &mut Bits, chip: &Chip, setting: &Setting)
             chip,
             tile,
             &column_buffer_function(global),
+            number,
+        ),
+        TileFunction::PowerUp => set_one(bits, chip, tile, &power_up_function(), number),
+        TileFunction::RamMode(place) => set_one(
+            bits,
+            chip,
+            tile,
+            &ram_mode_function(place),
             number,
         ),
     }

@@ -6,7 +6,7 @@ use Rattle.ice_base_values.specs.Order.{At}
 use Rattle.ice_base_values.proofs.Members.{At_within}
 use Rattle.ice_chip.specs.Database.{Parts, PackageRows}
 use Rattle.ice_chip.specs.declared.rows.TileKind.TheVariants.{Logic}
-use Rattle.ice_chip.specs.declared.wire_names.TileWire.{TileWire}
+use Rattle.ice_chip_names.specs.declared.wire_names.TileWire.{TileWire}
 use Rattle.ice_sites.specs.Legal.{tile_at}
 use Rattle.ice_place_defs.specs.Plan.{Plan}
 use Rattle.ice_place_defs.proofs.Feeding.{fed_back}

@@ -13,7 +13,7 @@ use Rattle.ice_chip.specs.Names.{input_name}
 use Rattle.ice_chip.specs.WireNames.{fabout_name}
 use Rattle.ice_chip.specs.declared.rows.Pad.{Pad}
 use Rattle.ice_chip.specs.declared.rows.TileKind.TheVariants.{Io, Logic}
-use Rattle.ice_chip.specs.declared.wire_names.TileWire.TheVariants as wires
+use Rattle.ice_chip_names.specs.declared.wire_names.TileWire.TheVariants as wires
 use Rattle.ice_decode.specs.declared.driver.Switch.{Switch}
 use Rattle.ice_decode.specs.Pads.{pads}
 use Rattle.ice_cells.specs.declared.cell.Control.{Control}

@@ -1,22 +1,24 @@
 -- A wire is of one pin.
 use Rattle.std.proofs.Common.{◌≡◌, ◌⊎◌, ℕ, true, false, Option, None, Some, List, inl, inr, refl, sym, ap, ◌∙◌, subst, true≢false}
 use Rattle.std.specs.Option.{option_map_or}
-use Rattle.std.specs.Prelude.{IfSome}
-use Rattle.std.proofs.lemmas.Bool.{or_left, or_right}
+use Rattle.std.specs.Prelude.{◌&&◌, not, IfSome}
+use Rattle.std.proofs.lemmas.Bool.{and_parts, or_left, or_right}
 use Rattle.std.proofs.lemmas.Option.{same_Some}
 use Rattle.ice_base.specs.declared.number.TileAt.{TileAt}
 use Rattle.ice_base_values.specs.Order.{Has}
 use Rattle.ice_base_values.proofs.Members.{any_Has, Has_any}
 use Rattle.ice_chip.specs.Database.{Parts}
 use Rattle.ice_chip.specs.Lookups.{kind_at, names_of, placed_at}
-use Rattle.ice_chip.specs.Names.{is_global_name}
 use Rattle.ice_chip.specs.PinNames.{is_input_of, is_output_of, is_input_name, is_output_name}
+use Rattle.ice_chip.specs.RamNames.{has_ram_wire, is_read_out}
+use Rattle.ice_chip.specs.Names.{is_global_name}
+use Rattle.ice_chip_names.proofs.RamNamesRead.{ram_name_begins}
 use Rattle.ice_chip.specs.WireNames.{IsNamedWire, IsTileWire, WireNamesAreRead, tile_wire, wire_name}
 use Rattle.ice_chip.specs.declared.rows.TileKind.{TileKind}
 use Rattle.ice_chip.specs.declared.rows.TileKind.TheVariants.{Io, Logic, RamBottom, RamTop}
 use Rattle.ice_chip.specs.declared.placed.PlacedName.{PlacedName}
-use Rattle.ice_chip.specs.declared.wire_names.TileWire.{TileWire}
-use Rattle.ice_chip.specs.declared.wire_names.TileWire.TheVariants.{CellInput, CellOutput, CarryOut, LookUp, Clock, ClockEnable, SetReset, CarryIn, FirstCarry, PadInput, PadOutput, OutputEnable, InputClock, OutputClock, InOutEnable, Fabout, Global}
+use Rattle.ice_chip_names.specs.declared.wire_names.TileWire.{TileWire}
+use Rattle.ice_chip_names.specs.declared.wire_names.TileWire.TheVariants.{CellInput, CellOutput, CarryOut, LookUp, Clock, ClockEnable, SetReset, CarryIn, FirstCarry, PadInput, PadOutput, OutputEnable, InputClock, OutputClock, InOutEnable, Fabout, Global, Ram}
 use Rattle.ice_chip_laws.specs.Laws.{IsLawful}
 use Rattle.ice_chip_laws.specs.Names.{HasName}
 use Rattle.ice_chip_laws.specs.Pins.{IsPinOf, is_pin_in}
@@ -25,27 +27,34 @@ use Rattle.ice_emit_led_laws.specs.Pins.{IsInput, IsOutput}
 
 -- ---- names
 -- what is read has no name of a global
-input_local : (kind : TileKind) (wire : TileWire) → is_input_of kind wire ≡ true → is_global_name (wire_name wire) ≡ false
-input_local kind (CellInput i k) e = refl
-input_local kind (CellOutput i) e = refl
-input_local kind (CarryOut i) e = refl
-input_local kind (LookUp i) e = refl
-input_local kind Clock e = refl
-input_local kind ClockEnable e = refl
-input_local kind SetReset e = refl
-input_local kind CarryIn e = refl
-input_local kind FirstCarry e = refl
-input_local kind (PadInput pio) e = refl
-input_local kind (PadOutput pio) e = refl
-input_local kind (OutputEnable pio) e = refl
-input_local kind InputClock e = refl
-input_local kind OutputClock e = refl
-input_local kind InOutEnable e = refl
-input_local kind Fabout e = refl
-input_local Io (Global n) e = absurd (true≢false (sym e))
-input_local Logic (Global n) e = absurd (true≢false (sym e))
-input_local RamBottom (Global n) e = absurd (true≢false (sym e))
-input_local RamTop (Global n) e = absurd (true≢false (sym e))
+input_local : (kind : TileKind) (wire : TileWire) → IsTileWire wire → is_input_of kind wire ≡ true → is_global_name (wire_name wire) ≡ false
+input_local kind (CellInput i k) within e = refl
+input_local kind (CellOutput i) within e = refl
+input_local kind (CarryOut i) within e = refl
+input_local kind (LookUp i) within e = refl
+input_local kind Clock within e = refl
+input_local kind ClockEnable within e = refl
+input_local kind SetReset within e = refl
+input_local kind CarryIn within e = refl
+input_local kind FirstCarry within e = refl
+input_local kind (PadInput pio) within e = refl
+input_local kind (PadOutput pio) within e = refl
+input_local kind (OutputEnable pio) within e = refl
+input_local kind InputClock within e = refl
+input_local kind OutputClock within e = refl
+input_local kind InOutEnable within e = refl
+input_local kind Fabout within e = refl
+input_local Io (Global n) within e = absurd (true≢false (sym e))
+input_local Logic (Global n) within e = absurd (true≢false (sym e))
+input_local RamBottom (Global n) within e = absurd (true≢false (sym e))
+input_local RamTop (Global n) within e = absurd (true≢false (sym e))
+input_local kind (Ram n) within e = ap is_global_name (ram_name_begins n within)
+
+-- a wire of a block RAM is read or driven
+never_ram : (kind : TileKind) (n : ℕ) → (has_ram_wire kind n && not (is_read_out n)) ≡ true → (has_ram_wire kind n && is_read_out n) ≡ true → ⊥
+never_ram kind n a b =
+    let out : is_read_out n ≡ true = (and_parts (has_ram_wire kind n) (is_read_out n) b).1 in
+    true≢false (sym (and_parts (has_ram_wire kind n) (not (is_read_out n)) a).1 ∙ ap not out)
 
 -- nothing is both read and driven in a tile of one kind
 never_both : (kind : TileKind) (wire : TileWire) → is_input_of kind wire ≡ true → is_output_of kind wire ≡ true → ⊥
@@ -63,8 +72,10 @@ never_both Logic SetReset a b = true≢false (sym b)
 never_both Logic FirstCarry a b = true≢false (sym b)
 never_both Logic wire a b = true≢false (sym a)
 never_both RamBottom (CellInput i k) a b = true≢false (sym a)
+never_both RamBottom (Ram n) a b = never_ram RamBottom n a b
 never_both RamBottom wire a b = true≢false (sym a)
 never_both RamTop (CellInput i k) a b = true≢false (sym a)
+never_both RamTop (Ram n) a b = never_ram RamTop n a b
 never_both RamTop wire a b = true≢false (sym a)
 
 module _ (parts : Parts) (law : IsLawful parts) (names : WireNamesAreRead) where
@@ -108,12 +119,12 @@ module _ (parts : Parts) (law : IsLawful parts) (names : WireNamesAreRead) where
   pub inputs_same : (t u : TileAt) (a b : TileWire) (w : ℕ) → IsInput parts t a w → IsInput parts u b w → (a ≡ b) × (t ≡ u)
   inputs_same t u a b w p q =
       let one = law.pins.one_pin w (placed_at t (wire_name a)) (placed_at u (wire_name b)) (input_pin t a w p) (input_pin u b w q) in
-      (same_name a b p.within q.within one.0, elim one.1 [ inl tile ↦ tile | inr global ↦ absurd (true≢false (sym global ∙ input_local p.kind a p.reads)) ])
+      (same_name a b p.within q.within one.0, elim one.1 [ inl tile ↦ tile | inr global ↦ absurd (true≢false (sym global ∙ input_local p.kind a p.within p.reads)) ])
 
   pub in_or_out : (t u : TileAt) (a b : TileWire) (w : ℕ) → IsInput parts t a w → IsOutput parts u b w → ⊥
   in_or_out t u a b w p q =
       let one = law.pins.one_pin w (placed_at t (wire_name a)) (placed_at u (wire_name b)) (input_pin t a w p) (output_pin u b w q) in
-      elim one.1 [ inl tile ↦ same tile (same_name a b p.within q.within one.0) | inr global ↦ true≢false (sym global ∙ input_local p.kind a p.reads) ]
+      elim one.1 [ inl tile ↦ same tile (same_name a b p.within q.within one.0) | inr global ↦ true≢false (sym global ∙ input_local p.kind a p.within p.reads) ]
     where
       same : t ≡ u → a ≡ b → ⊥
       same tile wire =

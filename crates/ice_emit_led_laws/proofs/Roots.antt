@@ -20,8 +20,8 @@ use Rattle.ice_chip.specs.declared.rows.Pad.{Pad}
 use Rattle.ice_chip.specs.declared.rows.TileKind.{TileKind}
 use Rattle.ice_chip.specs.declared.rows.TileKind.TheVariants.{Io, Logic, RamBottom, RamTop}
 use Rattle.ice_chip.specs.declared.placed.PlacedName.{PlacedName}
-use Rattle.ice_chip.specs.declared.wire_names.TileWire.{TileWire}
-use Rattle.ice_chip.specs.declared.wire_names.TileWire.TheVariants as named
+use Rattle.ice_chip_names.specs.declared.wire_names.TileWire.{TileWire}
+use Rattle.ice_chip_names.specs.declared.wire_names.TileWire.TheVariants as named
 use Rattle.ice_chip_laws.specs.Names.{HasName}
 use Rattle.ice_cells.specs.Formed.{IsRootOf}
 use Rattle.ice_cells.specs.Readings.{roots_read, is_read}

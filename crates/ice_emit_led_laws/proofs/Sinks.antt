@@ -12,8 +12,8 @@ use Rattle.ice_base_values.proofs.Members.{Has_cases, At_parts}
 use Rattle.ice_chip.specs.Database.{Parts}
 use Rattle.ice_chip.specs.Lookups.{wire_named, global_of}
 use Rattle.ice_chip.specs.declared.rows.Pad.{Pad}
-use Rattle.ice_chip.specs.declared.wire_names.TileWire.{TileWire}
-use Rattle.ice_chip.specs.declared.wire_names.TileWire.TheVariants.{CellInput, CellOutput, CarryOut, LookUp, Clock, ClockEnable, SetReset, CarryIn, FirstCarry, PadInput, PadOutput, OutputEnable, InputClock, OutputClock, InOutEnable, Fabout, Global}
+use Rattle.ice_chip_names.specs.declared.wire_names.TileWire.{TileWire}
+use Rattle.ice_chip_names.specs.declared.wire_names.TileWire.TheVariants.{CellInput, CellOutput, CarryOut, LookUp, Clock, ClockEnable, SetReset, CarryIn, FirstCarry, PadInput, PadOutput, OutputEnable, InputClock, OutputClock, InOutEnable, Fabout, Global, Ram}
 use Rattle.ice_cells.specs.declared.cell.Control.{Control}
 use Rattle.ice_cells.specs.declared.cell.LogicCell.{LogicCell}
 use Rattle.ice_cells.specs.declared.cluster.Cluster.{Cluster}
@@ -352,6 +352,7 @@ module _ (parts : Parts) (plan : Plan) (same : (t u : TileAt) (a b : TileWire) (
   of_cell InOutEnable i e = (refl, refl)
   of_cell Fabout i e = absurd (none-some i e)
   of_cell (Global n) i e = (refl, refl)
+  of_cell (Ram n) i e = (refl, refl)
 
   -- what reads in the tile has the names of pins
   pub record TileInputs (cells : List LogicCell) (t : TileAt) (cluster : Cluster) : Type 0 where

@@ -14,8 +14,8 @@ use Rattle.ice_chip.specs.Lookups.{wire_named}
 use Rattle.ice_chip.specs.Names.{input_name}
 use Rattle.ice_chip.specs.WireNames.{carry_out_name, first_carry_name}
 use Rattle.ice_chip.specs.declared.rows.TileKind.TheVariants.{Logic}
-use Rattle.ice_chip.specs.declared.wire_names.TileWire.{TileWire}
-use Rattle.ice_chip.specs.declared.wire_names.TileWire.TheVariants as named
+use Rattle.ice_chip_names.specs.declared.wire_names.TileWire.{TileWire}
+use Rattle.ice_chip_names.specs.declared.wire_names.TileWire.TheVariants as named
 use Rattle.ice_decode.specs.declared.driver.Switch.{Switch}
 use Rattle.ice_decode.proofs.Members.{Has_right, Has_append_cases}
 use Rattle.ice_bits_rows.specs.Sound.{is_sound}

@@ -20,8 +20,8 @@ use Rattle.ice_decode.specs.declared.point.Point.TheVariants.{Wire, Carry}
 use Rattle.ice_decode.specs.declared.role.Role.TheVariants.{Plain, Output, PadInput, Global, CarryIn}
 use Rattle.ice_decode.specs.declared.driver.Driver.TheVariants.{Nothing}
 use Rattle.ice_decode.specs.Cells.{has_flop, looked_up}
-use Rattle.ice_decode.specs.Meaning.{kept_at, global_gives}
-use Rattle.ice_decode.specs.Pads.{level_of, pad_gives, pin_type, has_input_register, input_kept}
+use Rattle.ice_decode.specs.Meaning.{global_gives}
+use Rattle.ice_decode.specs.Pads.{kept_at, level_of, pad_gives, pin_type, has_input_register, input_kept}
 use Rattle.ice_decode.specs.Reads.{wire_point, at_pin, at_pin_of, global_feed, carry_into, cell_inputs}
 use Rattle.ice_decode.specs.Drivers.{role_of}
 use Rattle.ice_lut.specs.Tables.{level_at, levels_from, rewired}

@@ -19,10 +19,13 @@ use Rattle.ice_base.proofs.Keys.{tile_self, nat_self}
 use Rattle.ice_decode.specs.declared.driver.Switch.{Switch}
 use Rattle.ice_decode.specs.Direct.{is_padin}
 use Rattle.ice_decode.specs.Drivers.{driver, switches_on}
-use Rattle.ice_decode.specs.Faults.{is_memory_output, is_foreign_wire, is_output_part, is_input_type, is_wire_read, is_input_read, has_wrong_type, HasNoLoop}
-use Rattle.ice_decode.specs.FirstFaults.{or_else, first_of, contended_by, contention, foreign_source, wrong_pad}
+use Rattle.ice_decode.specs.Faults.{is_memory_output, is_memory_wire, is_output_part, is_input_type, is_wire_read, is_input_read, has_wrong_type, HasNoLoop}
+use Rattle.ice_decode.specs.ForeignSources.{is_foreign_wire, is_foreign_name}
+use Rattle.ice_decode.specs.FirstFaults.{or_else, first_of, contended_by, contention, foreign_source, memory_source, wrong_pad}
+use Rattle.ice_decode.specs.Rams.{is_given}
+use Rattle.ice_decode.specs.Memories.{IsPlain}
 use Rattle.ice_decode.specs.Pads.{pads, pin_type}
-use Rattle.ice_decode.specs.Refusals.{IsFaultless, IsFaultOf, IsOfChip}
+use Rattle.ice_decode.specs.Refusals.{IsFaultOf, IsOfChip}
 use Rattle.ice_decode.specs.declared.fault.DecodeFault.{DecodeFault}
 use Rattle.ice_decode.specs.declared.fault.DecodeFault.TheVariants.{Contention, ForeignSource, ForeignFunction, ForeignExtra, ChipLoop, PinType, NoMemory}
 use Rattle.ice_cells.specs.declared.design.DesignPad.{DesignPad}
@@ -92,16 +95,28 @@ module _ (g : Premises) where
           let two = and_parts (is_private g.parts h.tile h.wire) (not (has_memory_name g.parts r.source)) one.0 in
           ap (has_memory_name g.parts) row.source ∙ not_true (has_memory_name g.parts r.source) two.1
 
-  not_foreign : (s : Switch) → Has (switches_on g.bits g.parts.groups) s → is_foreign_wire g.parts s.source.0 ≡ false
-  not_foreign s on =
+  not_memory : (s : Switch) → Has (switches_on g.bits g.parts.groups) s → is_memory_wire g.parts s.source.0 ≡ false
+  not_memory s on =
       let none = no_memory s (g.wired.on s on) in
-      false_from_ne_true (is_foreign_wire g.parts s.source.0)
+      false_from_ne_true (is_memory_wire g.parts s.source.0)
       (λ e. let found = any_Has (λ (n : PlacedName). is_memory_output n.name) (names_of g.parts s.source.0) e in
       true≢false (sym (Has_any (λ (n : PlacedName). is_memory_name n.name) (names_of g.parts s.source.0) found.0 found.1.0 found.1.1 (memory_named found.0.name found.2)) ∙ none))
 
+  plainly_sourced : memory_source g.parts g.bits ≡ None
+  plainly_sourced =
+      ap (option_map (λ (s : Switch). s.source.0)) (find_none (λ (s : Switch). is_memory_wire g.parts s.source.0) (switches_on g.bits g.parts.groups) not_memory)
+
+  -- what is no output of a memory is no foreign one
+  not_foreign : (s : Switch) → Has (switches_on g.bits g.parts.groups) s → is_foreign_wire g.parts g.bits s.source.0 ≡ false
+  not_foreign s on =
+      false_from_ne_true (is_foreign_wire g.parts g.bits s.source.0)
+      (λ e. let found = any_Has (is_foreign_name g.parts g.bits) (names_of g.parts s.source.0) e in
+      let named = (and_parts (is_memory_output found.0.name) (not (is_given g.parts g.bits found.0)) found.2).0 in
+      true≢false (sym (Has_any (λ (n : PlacedName). is_memory_output n.name) (names_of g.parts s.source.0) found.0 found.1.0 found.1.1 named) ∙ not_memory s on))
+
   sourced : foreign_source g.parts g.bits ≡ None
   sourced =
-      ap (option_map (λ (s : Switch). s.source.0)) (find_none (λ (s : Switch). is_foreign_wire g.parts s.source.0) (switches_on g.bits g.parts.groups) not_foreign)
+      ap (option_map (λ (s : Switch). s.source.0)) (find_none (λ (s : Switch). is_foreign_wire g.parts g.bits s.source.0) (switches_on g.bits g.parts.groups) not_foreign)
 
   -- ---- types of pins
   of_type : (pad : Pad) (n : ℕ) → pin_type g.parts g.bits pad ≡ n → is_output_part (n / 4) ≡ true → is_input_type n ≡ true → has_wrong_type g.parts g.bits pad ≡ false
@@ -146,8 +161,8 @@ module _ (g : Premises) where
   all_typed : wrong_pad g.parts g.bits ≡ None
   all_typed = find_none (has_wrong_type g.parts g.bits) (pads g.parts) typed
 
-  pub faultless : HasNoLoop g.parts g.bits g.extras → IsFaultless g.parts g.bits g.extras
-  faultless loopless = record { of_chip = of_chip; loopless = loopless; types = all_typed }
+  pub plain : HasNoLoop g.parts g.bits g.extras → IsPlain g.parts g.bits g.extras
+  plain loopless = record { faultless = record { of_chip = of_chip; loopless = loopless; types = all_typed }; memories = plainly_sourced }
 
   pub faulty : (fault : DecodeFault) → IsFaultOf g.parts g.bits g.extras fault → (fault ≡ NoMemory → ⊥) → HasGlobalRing g.parts
   faulty (Contention wire rows) is known = absurd (let none = of_chip.uncontended in cc (is, none))

@@ -18,7 +18,7 @@ use Rattle.ice_chip.specs.WireNames.{fabout_name}
 use Rattle.ice_chip.specs.Within.{FeedsGlobal}
 use Rattle.ice_chip_laws.specs.Laws.{IsLawful}
 use Rattle.ice_decode.specs.declared.role.Role.{Role}
-use Rattle.ice_decode.specs.declared.role.Role.TheVariants.{Plain, Output, LookUp, CarryOut, PadInput, Global, CarryIn, ClockEnable}
+use Rattle.ice_decode.specs.declared.role.Role.TheVariants.{Plain, Output, LookUp, CarryOut, PadInput, RamOutput, Global, CarryIn, ClockEnable}
 use Rattle.ice_decode.specs.Reads.{global_feed, wire_point, at_pin_of}
 use Rattle.ice_decode.specs.Drivers.{role_of}
 use Rattle.ice_emit_meaning_laws.specs.Feeds.{FeedsNoGlobal, HasGlobalRing, IsRingless, feeders, global_numbers, feed_of, is_fed_by_global, is_global, some_fed_below}
@@ -75,6 +75,7 @@ no_global (Output t i) never = refl
 no_global (LookUp t i) never = refl
 no_global (CarryOut t i) never = refl
 no_global (PadInput pad) never = refl
+no_global (RamOutput pad) never = refl
 no_global (Global n) never = absurd (never n refl)
 no_global (CarryIn t) never = refl
 no_global ClockEnable never = refl
@@ -106,6 +107,7 @@ module _ (parts : Parts) (feeds : FeedsNoGlobal parts) (n m : ℕ) where
   at_role w found (LookUp t i) is has = cc has.1
   at_role w found (CarryOut t i) is has = cc has.1
   at_role w found (PadInput pad) is has = cc has.1
+  at_role w found (RamOutput pad) is has = cc has.1
   at_role w found (Global k) is has = feeds.none n k w (is_feed parts (global_of parts n) ∙ ap (option_map wire_point) found) is
   at_role w found (CarryIn t) is has = cc has.1
   at_role w found ClockEnable is has = cc has.1

@@ -14,11 +14,12 @@ use Rattle.ice_chip.specs.declared.rows.TileKind.TheVariants.{Logic}
 use Rattle.ice_decode.specs.declared.point.Point.{Point}
 use Rattle.ice_decode.specs.declared.point.Point.TheVariants.{Wire, Carry}
 use Rattle.ice_decode.specs.declared.role.Role.{Role}
-use Rattle.ice_decode.specs.declared.role.Role.TheVariants.{Plain, Output, LookUp, CarryOut, PadInput, Global, CarryIn, ClockEnable}
+use Rattle.ice_decode.specs.declared.role.Role.TheVariants.{Plain, Output, LookUp, CarryOut, PadInput, RamOutput, Global, CarryIn, ClockEnable}
 use Rattle.ice_decode.specs.declared.driver.Driver.TheVariants.{Nothing}
 use Rattle.ice_decode.specs.declared.driver.Switch.{Switch}
-use Rattle.ice_decode.specs.Cells.{has_flop, logic_tiles}
-use Rattle.ice_decode.specs.Meaning.{kept_at, tile_place, role_makes}
+use Rattle.ice_decode.specs.Cells.{has_flop, logic_tiles, tile_place}
+use Rattle.ice_decode.specs.Meaning.{role_makes}
+use Rattle.ice_decode.specs.Pads.{kept_at}
 use Rattle.ice_decode.specs.Reads.{wire_point, at_pin, cell_inputs, role_reads}
 use Rattle.ice_decode.specs.Drivers.{role_of}
 use Rattle.ice_decode.proofs.RolePlaces.{IsCell, IsOfCell, role_of_cell}
@@ -162,6 +163,7 @@ module _ (g : Premises) (bonded : List Pad) (levels kept kept_cells : List Bool)
   other_valued w none (LookUp t i) is fits not = let all = inputs_valued t i fits in by_role w (LookUp t i) all.0 none is all.1
   other_valued w none (CarryOut t i) is fits not = let has = carry_valued t i fits.below in by_role w (CarryOut t i) (has.0 ∷ []) none is (has.1, tt)
   other_valued w none (PadInput pad) is fits not = by_role w (PadInput pad) [] none is tt
+  other_valued w none (RamOutput pad) is fits not = by_role w (RamOutput pad) [] none is tt
   other_valued w none (Global n) is fits not = absurd (not n refl)
   other_valued w none (CarryIn t) is fits not = by_role w (CarryIn t) [] none is tt
   other_valued w none ClockEnable is fits not = by_role w ClockEnable [] none is tt
@@ -173,6 +175,7 @@ module _ (g : Premises) (bonded : List Pad) (levels kept kept_cells : List Bool)
   bare_cases w none (LookUp t i) is fits = inl (other_valued w none (LookUp t i) is fits (λ n e. cc e))
   bare_cases w none (CarryOut t i) is fits = inl (other_valued w none (CarryOut t i) is fits (λ n e. cc e))
   bare_cases w none (PadInput pad) is fits = inl (other_valued w none (PadInput pad) is fits (λ n e. cc e))
+  bare_cases w none (RamOutput pad) is fits = inl (other_valued w none (RamOutput pad) is fits (λ n e. cc e))
   bare_cases w none (Global n) is fits = inr (n, none, is)
   bare_cases w none (CarryIn t) is fits = inl (other_valued w none (CarryIn t) is fits (λ n e. cc e))
   bare_cases w none ClockEnable is fits = inl (other_valued w none ClockEnable is fits (λ n e. cc e))

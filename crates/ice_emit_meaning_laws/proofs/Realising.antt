@@ -18,13 +18,13 @@ use Rattle.ice_emit_defs.specs.Set.{AreSet}
 use Rattle.ice_emit_defs.specs.Written.{plan_extras}
 use Rattle.ice_emit_meaning_laws.specs.Feeds.{FaultsAreRings, IsRingless}
 use Rattle.ice_emit_meaning_laws.proofs.Premises.{Premises}
-use Rattle.ice_emit_meaning_laws.proofs.Faultless.{faultless, faulty}
+use Rattle.ice_emit_meaning_laws.proofs.Faultless.{plain, faulty}
 use Rattle.ice_emit_meaning_laws.proofs.Rings.{ringless_loopless}
 use Rattle.ice_emit_meaning_laws.proofs.Steps.{shows_same, off_elsewhere}
 
 realised : (g : Premises) → HasNoLoop g.parts g.bits g.extras → Realises g.parts g.plan g.wanted g.bits g.extras
 realised g loopless = record {
-  faultless = faultless g loopless;
+  plain = plain g loopless;
   wired = g.wired;
   shows = λ bonded steps. shows_same g loopless bonded steps;
   elsewhere = λ bonded steps pad there none. off_elsewhere g loopless bonded steps pad there none;

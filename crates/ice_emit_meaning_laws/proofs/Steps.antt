@@ -30,11 +30,12 @@ use Rattle.ice_decode.specs.declared.point.Point.{Point}
 use Rattle.ice_decode.specs.declared.point.Point.TheVariants.{Wire, Carry}
 use Rattle.ice_decode.specs.declared.role.Role.TheVariants.{Plain, ClockEnable}
 use Rattle.ice_decode.specs.declared.driver.Driver.TheVariants.{Nothing}
-use Rattle.ice_decode.specs.Cells.{logic_tiles, has_flop, reset_of, looked_up}
+use Rattle.ice_decode.specs.Cells.{logic_tiles, has_flop, reset_of, looked_up, tile_place}
 use Rattle.ice_decode.specs.Faults.{HasNoLoop}
 use Rattle.ice_decode.specs.Meaning as chip
-use Rattle.ice_decode.specs.Meaning.{tile_place, kept_at, store_after, clock_after, point_level, chip_system, drive_at}
-use Rattle.ice_decode.specs.Pads.{pads, pin_level, part_drive, Store, CellStore, stores, output_kept}
+use Rattle.ice_decode.proofs.PadDrives.{low_drive, pad_low}
+use Rattle.ice_decode.specs.Meaning.{store_after, clock_after, point_level, drive_at, chip_system}
+use Rattle.ice_decode.specs.Pads.{kept_at, pads, pin_level, part_drive, Store, CellStore, stores, output_kept}
 use Rattle.ice_decode.specs.Reads.{wire_point, at_pin, cell_inputs, count_points}
 use Rattle.ice_decode.specs.Drivers.{role_of}
 use Rattle.ice_decode.proofs.KeptLevels.{kept_stepped, clock_stepped, cell_stands}
@@ -62,7 +63,7 @@ use Rattle.ice_emit_defs.specs.Slots.{StandsIn}
 use Rattle.ice_emit_meaning_laws.proofs.Premises.{Premises}
 use Rattle.ice_emit_meaning_laws.proofs.Arriving.{v, arrives, pin_reads, root_reads, table_given}
 use Rattle.ice_emit_meaning_laws.proofs.Starts.{Starts}
-use Rattle.ice_emit_meaning_laws.proofs.Faultless.{faultless}
+use Rattle.ice_emit_meaning_laws.proofs.Faultless.{plain}
 use Rattle.ice_emit_meaning_laws.proofs.PadTypes.{pad_there, io_or_other}
 use Rattle.ice_emit_meaning_laws.proofs.Pins.{clock_plain, enable_is, reset_plain, pad_output_plain, pad_enable_plain}
 use Rattle.ice_emit_meaning_laws.proofs.Read.{IsReadable, cell_reads, pad_reads, io_wire, pad_below}
@@ -163,7 +164,7 @@ module _ (g : Premises) (loopless : HasNoLoop g.parts g.bits g.extras) where
     level_now w x lt (k, e) =
         let system = chip_system g.parts g.bits g.extras bonded levels s.kept in
         let is : value system (count_points g.parts + 1) (Wire w) ≡ Some (now (Wire w)) =
-        faultless_valued g.parts g.bits g.extras g.chip_read (faultless g loopless) bonded levels s.kept (Wire w) (w.0, wire_at g.parts.wires (logic_tiles g.parts) w.0 lt) in
+        faultless_valued g.parts g.bits g.extras g.chip_read (plain g loopless).faultless bonded levels s.kept (Wire w) (w.0, wire_at g.parts.wires (logic_tiles g.parts) w.0 lt) in
         let one = value_at_more system (count_points g.parts + 1) (k + (count_points g.parts + 1)) (Wire w) (now (Wire w)) (omega arith) is in
         let two = value_at_more system k (k + (count_points g.parts + 1)) (Wire w) x (omega arith) e in
         same_Some (now (Wire w)) x (sym one ∙ two)
@@ -308,7 +309,7 @@ module _ (g : Premises) (loopless : HasNoLoop g.parts g.bits g.extras) where
 
     -- ---- what pads show
     drive_now : (k : ℕ) (pad : Pad) (port : DesignPad) → At g.plan.ports k pad → At d.pads k port → drive_at g.parts g.bits s.kept now pad ≡ pad_drives node_now port
-    drive_now k pad port here there = by (io_or_other g pad.tile) (g.placed.formed.pads k port there)
+    drive_now k pad port here there = low_drive g.parts g.bits s.kept now pad (pad_below g k pad here) ∙ by (io_or_other g pad.tile) (g.placed.formed.pads k port there)
       where
         lt : pad.pio < 2
         lt = pad_below g k pad here
@@ -326,7 +327,7 @@ module _ (g : Premises) (loopless : HasNoLoop g.parts g.bits g.extras) where
         wires : HasWires g.parts port pad
         wires = g.placed.pads.wires k port pad there here
 
-        by : (kind_at g.parts pad.tile ≡ Some Io) ⊎ (kind_at g.parts pad.tile ≡ Some Io → ⊥) → IsPad port → drive_at g.parts g.bits s.kept now pad ≡ pad_drives node_now port
+        by : (kind_at g.parts pad.tile ≡ Some Io) ⊎ (kind_at g.parts pad.tile ≡ Some Io → ⊥) → IsPad port → chip.pad_drive g.parts g.bits s.kept now pad ≡ pad_drives node_now port
         by (inr other) (inl one) =
             ap (λ n. part_drive (n / 4) level enable held) (other_untyped g.parts g.bits g.chip_read pad other lt) ∙ sym (ap (λ n. pad_drive n (at_root false node_now port.drive) (at_root false node_now port.enable)) one.0)
         by (inr other) (inr (inl two)) = absurd (other (io_wire g.parts pad.tile (pad_output_name pad.pio) (wires.output (inl two.0))).0)
@@ -371,6 +372,7 @@ module _ (g : Premises) (loopless : HasNoLoop g.parts g.bits g.extras) where
     pub off_elsewhere : (steps : List (List Bool)) (pad : Pad) → Has (pads g.parts) pad → (Has g.plan.ports pad → ⊥) → chip.bits_show g.parts g.bits g.extras bonded (pad ∷ []) steps ≡ replicate (length steps) (Off ∷ [])
     off_elsewhere steps pad there none =
         shows_one (chip.chip_step g.parts g.bits g.extras bonded (pad ∷ [])) (Off ∷ [])
-        (λ s levels. ap (λ n. part_drive (n / 4) (pin_level false g.parts (point_level g.parts g.bits g.extras bonded levels s.kept) pad.tile (pad_output_name pad.pio))
+        (λ s levels. ap (λ d. d ∷ []) (low_drive g.parts g.bits s.kept (point_level g.parts g.bits g.extras bonded levels s.kept) pad (pad_low g.parts pad there))
+        ∙ ap (λ n. part_drive (n / 4) (pin_level false g.parts (point_level g.parts g.bits g.extras bonded levels s.kept) pad.tile (pad_output_name pad.pio))
         (pin_level false g.parts (point_level g.parts g.bits g.extras bonded levels s.kept) pad.tile (output_enable_name pad.pio)) (output_kept g.parts s.kept pad) ∷ []) (g.are_set.untyped pad there none))
         (chip.chip_start g.parts) steps

@@ -8,7 +8,7 @@ use Rattle.ice_chip.specs.Lookups.{global_of, kind_at, wire_named}
 use Rattle.ice_chip.specs.WireNames.{fabout_name}
 use Rattle.ice_chip.specs.declared.rows.TileKind.TheVariants.{Io}
 use Rattle.ice_decode.specs.declared.role.Role.{Role}
-use Rattle.ice_decode.specs.declared.role.Role.TheVariants.{Plain, Output, LookUp, CarryOut, PadInput, Global, CarryIn, ClockEnable}
+use Rattle.ice_decode.specs.declared.role.Role.TheVariants.{Plain, Output, LookUp, CarryOut, PadInput, RamOutput, Global, CarryIn, ClockEnable}
 use Rattle.ice_bits.specs.Configuration.{Bits}
 use Rattle.ice_decode.specs.declared.fault.DecodeFault.{DecodeFault}
 use Rattle.ice_decode.specs.declared.fault.DecodeFault.TheVariants.{NoMemory}
@@ -61,6 +61,7 @@ is_global (Output t i) = false
 is_global (LookUp t i) = false
 is_global (CarryOut t i) = false
 is_global (PadInput pad) = false
+is_global (RamOutput pad) = false
 is_global (Global n) = true
 is_global (CarryIn t) = false
 is_global ClockEnable = false

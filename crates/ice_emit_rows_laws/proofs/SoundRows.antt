@@ -13,9 +13,9 @@ use Rattle.ice_chip.specs.Database.{Parts, SwitchGroup, SwitchRow, same_tile}
 use Rattle.ice_chip.specs.Listings.{rows_of}
 use Rattle.ice_chip_laws.specs.Groups.{HasRows}
 use Rattle.ice_bits.specs.Configuration.{Bits, same_place}
-use Rattle.ice_bits.specs.Settings.{values_of, number_with, row_on, rows_on}
+use Rattle.ice_bits.specs.Settings.{values_of, number_with, row_on}
+use Rattle.ice_bits_rows.specs.Sound.{rows_on, value_at, sets, is_one, is_alone}
 use Rattle.ice_bits_rows.specs.Bundles.{groups_into, bundle, has_bit, is_of_other, is_shared, shares_bit, is_private}
-use Rattle.ice_bits_rows.specs.Sound.{value_at, sets, is_one, is_alone}
 use Rattle.ice_base_values.proofs.Together.{Has_head, Has_tail}
 use Rattle.ice_base_values.proofs.Members.{Has_any, Has_filter, filter_Has}
 use Rattle.ice_emit_rows_laws.proofs.Mapped.{Has_mapped_by, mapped_by_Has}

@@ -16,7 +16,7 @@ use Rattle.ice_lut.proofs.TableLaws.{number_bound}
 use Rattle.ice_chip.specs.Names.{cell_function, falling_clock_function}
 use Rattle.ice_chip.specs.FunctionNames.{carry_set_function}
 use Rattle.ice_chip.specs.Lookups.{kind_at, function_of}
-use Rattle.ice_chip.specs.declared.function_names.TileFunction.TheVariants.{Cell, FallingClock, CarrySet}
+use Rattle.ice_chip_names.specs.declared.function_names.TileFunction.TheVariants.{Cell, FallingClock, CarrySet}
 use Rattle.ice_chip.specs.declared.rows.TileKind.{TileKind}
 use Rattle.ice_chip.specs.declared.rows.TileKind.TheVariants.{Logic}
 use Rattle.ice_chip_laws.specs.Functions.{HasFunction}

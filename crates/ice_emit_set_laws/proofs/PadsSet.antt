@@ -17,7 +17,7 @@ use Rattle.ice_chip.specs.Names.{pin_type_function, input_enable_function}
 use Rattle.ice_chip.specs.Indices.{enables_of}
 use Rattle.ice_chip.specs.Lookups.{kind_at, function_of, ieren_of, is_io_kind}
 use Rattle.ice_chip.specs.Database.{same_tile, same_pad}
-use Rattle.ice_chip.specs.declared.function_names.TileFunction.TheVariants.{PinType, InputEnable}
+use Rattle.ice_chip_names.specs.declared.function_names.TileFunction.TheVariants.{PinType, InputEnable}
 use Rattle.ice_chip.specs.declared.rows.TileLine.{TileLine}
 use Rattle.ice_chip.specs.declared.rows.Pad.{Pad}
 use Rattle.ice_chip.specs.declared.rows.TileKind.{TileKind}

@@ -17,7 +17,7 @@ use Rattle.ice_chip.specs.Database.{FunctionRow}
 use Rattle.ice_chip.specs.Names.{column_buffer_function}
 use Rattle.ice_chip.specs.Functions.{is_foreign, same_kind}
 use Rattle.ice_chip.specs.Lookups.{kind_at, function_of, colbuf_of, names_of}
-use Rattle.ice_chip.specs.declared.function_names.TileFunction.TheVariants.{ColumnBuffer}
+use Rattle.ice_chip_names.specs.declared.function_names.TileFunction.TheVariants.{ColumnBuffer}
 use Rattle.ice_chip.specs.declared.rows.TileLine.{TileLine}
 use Rattle.ice_chip.specs.declared.rows.TileKind.{TileKind}
 use Rattle.ice_bits.specs.Configuration.{Bits}

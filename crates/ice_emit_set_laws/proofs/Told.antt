@@ -18,13 +18,13 @@ use Rattle.ice_chip.specs.Indices.{put_first, with_first, firsts, enables_of}
 use Rattle.ice_chip.specs.IsRead.{IsChip}
 use Rattle.ice_chip.specs.Lookups.{kind_at, ieren_of, colbuf_of, names_of, enable_counts}
 use Rattle.ice_chip.specs.Within.{IsPad, ArePads, IsPackage}
-use Rattle.ice_chip.specs.declared.function_names.TileFunction.{TileFunction}
-use Rattle.ice_chip.specs.declared.function_names.TileFunction.TheVariants.{Cell, FallingClock, CarrySet, PinType, InputEnable, PullUp, ColumnBuffer}
+use Rattle.ice_chip_names.specs.declared.function_names.TileFunction.{TileFunction}
+use Rattle.ice_chip_names.specs.declared.function_names.TileFunction.TheVariants.{Cell, FallingClock, CarrySet, PinType, InputEnable, PullUp, ColumnBuffer, PowerUp, RamMode}
 use Rattle.ice_chip.specs.declared.rows.Pad.{Pad}
 use Rattle.ice_chip.specs.declared.rows.TileKind.TheVariants.{Logic}
 use Rattle.ice_chip.specs.declared.placed.PlacedName.{PlacedName}
 use Rattle.ice_chip.proofs.Keys.{pad_same}
-use Rattle.ice_chip.proofs.Prefixes.{set_number}
+use Rattle.ice_chip_names.proofs.Prefixes.{set_number}
 use Rattle.ice_chip_laws.specs.Laws.{IsLawful}
 use Rattle.ice_decode.specs.declared.driver.Switch.{Switch}
 use Rattle.ice_decode.specs.Meaning.{global_at}
@@ -119,6 +119,8 @@ module _ (z : Case) where
   Told t k (InputEnable pio) = is_needed (enables_of z.parts) read (record { tile = t; pio = pio }) ≡ false
   Told t k (PullUp pio) = Unit {0}
   Told t k (ColumnBuffer n) = Unit {0}
+  Told t k PowerUp = Unit {0}
+  Told t k (RamMode place) = Unit {0}
 
   pub record IsTold (x : Setting) : Type 0 where
     pub function : TileFunction

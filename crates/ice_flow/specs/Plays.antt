@@ -1,4 +1,5 @@
 -- The end of a command that plays or times, clause by clause.
+use Rattle.std.specs.Prelude.{true, false}
 use Rattle.ice_desk.specs.Desk.{Meaning}
 use Rattle.ice_flow_frame.specs.declared.cause.Done.{Done}
 use Rattle.ice_flow_frame.specs.Rows.{DoneRow, GoodRow, ReadFaultRow, WriteFaultRow, TooLongRow}
@@ -28,7 +29,7 @@ pub record IsBitsAnswer (p : PlayBits) (old new : Meaning) (end : Done) : Type 0
   pub bad_chip : ChipRow (play_bits p) old end.cause
   pub bad_asc : AscRow (play_bits p) old end.cause
   pub no_package : PackageRow (play_bits p) p.package_name old end.cause
-  pub bad_bits : BitsRow (play_bits p) p.package_name old end.cause
+  pub bad_bits : BitsRow true (play_bits p) p.package_name old end.cause
   pub bad_levels : LevelsRow p old end.cause
   pub read_fault : ReadFaultRow (play_bits p) old new end.cause
   pub write_fault : WriteFaultRow (play_bits p) old new end.cause
@@ -41,7 +42,7 @@ pub record IsTimeAnswer (t : Time) (old new : Meaning) (end : Done) : Type 0 whe
   pub bad_chip : ChipRow (time t) old end.cause
   pub bad_asc : AscRow (time t) old end.cause
   pub no_package : PackageRow (time t) t.package_name old end.cause
-  pub bad_bits : BitsRow (time t) t.package_name old end.cause
+  pub bad_bits : BitsRow false (time t) t.package_name old end.cause
   pub bad_delays : DelaysRow t old end.cause
   pub read_fault : ReadFaultRow (time t) old new end.cause
   pub write_fault : WriteFaultRow (time t) old new end.cause

@@ -5,7 +5,8 @@ use Rattle.ice_desk.specs.Desk.{Meaning}
 use Rattle.ice_desk.specs.Changes.{SameButSaying}
 use Rattle.ice_desk.specs.Said.{SaidRow}
 use Rattle.ice_flow_words.specs.Command.{command}
-use Rattle.ice_flow_words.specs.Requests.{Asked, Build, ForBuild}
+use Rattle.ice_flow_words.specs.Requests.{Asked, ForBuild}
+use Rattle.ice_flow_words.specs.BuildRequest.{Build}
 use Rattle.ice_flow_words.specs.Reading.{request_of}
 use Rattle.ice_flow_frame.specs.declared.cause.Cause.{Cause}
 use Rattle.ice_flow_frame.specs.declared.cause.Cause.TheVariants.{Usage, NoMemory}

@@ -1,5 +1,5 @@
 -- When each answer of `back` comes, from how its texts stand.
-use Rattle.std.proofs.Common.{◌≡◌, ℕ, List, inl, inr}
+use Rattle.std.proofs.Common.{◌≡◌, ℕ, List, inl, inr, false}
 use Rattle.ice_desk.specs.Desk.{Meaning}
 use Rattle.ice_chip.specs.Database.{PackageRows}
 use Rattle.ice_flow_frame.specs.declared.cause.Cause.{Cause}
@@ -24,22 +24,22 @@ abbrev Then : List (List ℕ) → PackageRows → Cause → Type 0
 Then texts bonded = IsDone
 
 never : (name : List ℕ) (t : List (List ℕ)) → StandsForBack name t Usage → ⊥
-never name t m = elim (told (Then t) name t Usage m) [ inl so ↦ so | inr behind ↦ behind.stands ]
+never name t m = elim (told false (Then t) name t Usage m) [ inl so ↦ so | inr behind ↦ behind.stands ]
 
 pub lawful : (b : Back) → Lawful (back_files b)
 lawful b = record {
   done = λ t made on counted cause g done.
       let shown = g.0.is_shown in
-      configured_so (Then t) b.package_name t shown.parts shown.configuration shown.bonded cause shown.is_configured done;
+      configured_so false (Then t) b.package_name t shown.parts shown.configuration shown.bonded cause shown.is_configured done;
   never = never b.package_name;
 }
 
 pub alone : (b : Back) → StandsAlone (back_files b)
 alone b t made on counted cause g m =
     let shown = g.0.is_shown in
-    then_so (Then t) b.package_name t shown.parts shown.configuration shown.bonded cause shown.is_configured m
+    then_so false (Then t) b.package_name t shown.parts shown.configuration shown.bonded cause shown.is_configured m
 
-on_bits : (b : Back) → IsOnBits (back_files b) Then b.package_name
+on_bits : (b : Back) → IsOnBits false (back_files b) Then b.package_name
 on_bits b = record {
   lawful = lawful b;
   stands = λ t cause m. m;
@@ -63,10 +63,10 @@ answers b old new end is status told_long =
       headline = headline_row b old new end.cause end.status good;
       good = good;
       done = done_row (back_files b) old new end.cause (lawful b) (alone b) is;
-      bad_chip = chip_row (back_files b) Then name on old new end.cause is;
-      bad_asc = asc_row (back_files b) Then name on old new end.cause is;
-      no_package = package_row (back_files b) Then name on old new end.cause is;
-      bad_bits = bits_row (back_files b) Then name on old new end.cause is;
+      bad_chip = chip_row false (back_files b) Then name on old new end.cause is;
+      bad_asc = asc_row false (back_files b) Then name on old new end.cause is;
+      no_package = package_row false (back_files b) Then name on old new end.cause is;
+      bad_bits = bits_row false (back_files b) Then name on old new end.cause is;
       read_fault = read_fault_row (back_files b) old new end.cause is;
       write_fault = write_fault_row (back_files b) old new end.cause is;
       too_long = too_long_row (back_files b) old new end.cause is told_long;

@@ -1,5 +1,5 @@
 -- When each answer of `back` comes: only where its cause is true, and always there, unless the desk or the memory fails.
-use Rattle.std.specs.Prelude.{◌≡◌, ℕ, true, Some, List}
+use Rattle.std.specs.Prelude.{◌≡◌, ℕ, true, Some, List, false}
 use Rattle.ice_desk.specs.Desk.{Meaning}
 use Rattle.ice_flow_frame.specs.declared.cause.Done.{Done}
 use Rattle.ice_flow_frame.specs.Rows.{DoneRow, GoodRow, ReadFaultRow, WriteFaultRow, TooLongRow}
@@ -23,7 +23,7 @@ pub record IsBackAnswer (b : Back) (old new : Meaning) (end : Done) : Type 0 whe
   pub bad_chip : ChipRow (back_files b) old end.cause
   pub bad_asc : AscRow (back_files b) old end.cause
   pub no_package : PackageRow (back_files b) b.package_name old end.cause
-  pub bad_bits : BitsRow (back_files b) b.package_name old end.cause
+  pub bad_bits : BitsRow false (back_files b) b.package_name old end.cause
   pub read_fault : ReadFaultRow (back_files b) old new end.cause
   pub write_fault : WriteFaultRow (back_files b) old new end.cause
   pub too_long : TooLongRow (back_files b) old new end.cause

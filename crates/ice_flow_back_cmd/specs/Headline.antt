@@ -1,5 +1,5 @@
 -- The headline: the netlist that is written is the configured chip.
-use Rattle.std.specs.Prelude.{◌≡◌, ℕ, Bool, List, ◌++◌, map, codes}
+use Rattle.std.specs.Prelude.{◌≡◌, ℕ, Bool, List, ◌++◌, map, codes, false}
 use Rattle.ice_chip.specs.Database.{Parts, PackageRows}
 use Rattle.ice_chip.specs.Listings.{first_pin}
 use Rattle.ice_chip.specs.declared.rows.Pad.{Pad}
@@ -33,5 +33,5 @@ pub record IsShown (name : List ℕ) (texts : List (List ℕ)) (text : List ℕ)
   pub parts : Parts
   pub configuration : Configuration
   pub bonded : PackageRows
-  pub is_configured : IsConfigured name texts parts configuration bonded
+  pub is_configured : IsConfigured false name texts parts configuration bonded
   pub says : SaysBits parts configuration bonded text

@@ -1,5 +1,5 @@
 //! Going back: two texts are read, and the text of the netlist of the bits is written.
-ghost use Rattle.std.specs.Prelude.{◌≡◌, true, None};
+ghost use Rattle.std.specs.Prelude.{◌≡◌, false, true, None};
 ghost use Rattle.ice_desk.specs.Changes.{SameTest};
 ghost use Rattle.ice_flow_frame.specs.Causes.{status_of};
 ghost use Rattle.ice_flow_frame.specs.Commands.{InFiles, IsDone, IsTrueOf};
@@ -27,9 +27,15 @@ use std::alloc::Global;
 struct GoingBack;
 
 impl ChipMaking for GoingBack {
+    ghost rams = { λ going_back. false };
+
     ghost stands = { λ going_back texts bonded. IsDone };
 
     ghost gives = { λ going_back. IsMadeByBack };
+
+    fn takes_rams(&self) -> bool {
+        false
+    }
 
     fn make(
         &self,

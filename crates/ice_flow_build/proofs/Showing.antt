@@ -30,7 +30,7 @@ pub shows : (n : NetlistData) (order : List ℕ) → IsSoundInOrder n order → 
     → Realises parts (plan_in layout) (wanted_rows parts (plan_in layout) routes) (bits_of k) k.extras → RealisesNetlist n layout.pads.ports parts k
 shows n order sound same parts name constraints layout routes k laid stands written real = record {
   form = written.form;
-  faultless = real.faultless;
+  plain = real.plain;
   shows_same = λ bonded. record {
     pad_each = stands.2.pads.ports ∙ ap (λ (d : Design). length d.pads) laid.design ∙ design_long n;
     at_ports = λ steps. real.shows bonded steps ∙ ap (λ (d : Design). design.shows d (map (port_levels bonded layout.pads.ports) steps)) laid.design ∙ same n order sound (map (port_levels bonded layout.pads.ports) steps);

@@ -10,7 +10,7 @@ use Rattle.ice_bits.specs.Configuration.{Bits, Configuration, bits_of}
 use Rattle.ice_bits.specs.Grids.{IsOf}
 use Rattle.ice_decode.specs.Pads.{pads}
 use Rattle.ice_decode.specs.Meaning.{bits_show}
-use Rattle.ice_decode.specs.Refusals.{IsFaultless}
+use Rattle.ice_decode.specs.Memories.{IsPlain}
 use Rattle.ice_emit_defs.specs.Realised.{port_levels}
 
 -- For every list of levels of the pads of the package, `bonded`, the chip drives step by step at the ports' pads exactly what the
@@ -21,8 +21,8 @@ pub record ShowsSame (n : NetlistData) (ports : List Pad) (parts : Parts) (bits 
   pub elsewhere : (steps : List (List Bool)) (pad : Pad) → Has (pads parts) pad → (Has ports pad → ⊥)
       → bits_show parts bits extras bonded (pad ∷ []) steps ≡ replicate (length steps) (Off ∷ [])
 
--- The bits are a circuit of the chip without a fault, which shows what the netlist shows, whichever pads the package has.
+-- The bits are a circuit of the chip without a fault, in which no row that is on reads an output of a memory, and which shows what the netlist shows, whichever pads the package has.
 pub record RealisesNetlist (n : NetlistData) (ports : List Pad) (parts : Parts) (k : Configuration) : Type 0 where
   pub form : IsOf parts k
-  pub faultless : IsFaultless parts (bits_of k) k.extras
+  pub plain : IsPlain parts (bits_of k) k.extras
   pub shows_same : (bonded : List Pad) → ShowsSame n ports parts (bits_of k) k.extras bonded

@@ -274,7 +274,7 @@ circuit_as : (m n : NetlistData) (ports : List Pad) (parts : Parts) (k : Configu
     → RealisesNetlist m ports parts k → RealisesNetlist n ports parts k
 circuit_as m n ports parts k long same is = record {
   form = is.form;
-  faultless = is.faultless;
+  plain = is.plain;
   shows_same = λ bonded.
       let s = is.shows_same bonded in
       record {

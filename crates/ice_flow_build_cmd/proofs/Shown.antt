@@ -102,7 +102,7 @@ module _ (b : Build) (t made : List (List ℕ)) (on : Arrangement) (told : Told)
     is_chip = text_rows (text_at t 1) g.task.parts (rows_said (text_at t 1) g.task.parts g.is_asked.is_chip);
     is_circuit = text_netlists (text_at t 3) g.is_asked.circuit g.is_asked.is_circuit;
     say_bits = text_says g.task.parts (asc_text g.task.parts g.built.bits) g.built.bits g.is_read_back;
-    faultless = no_fault g.task.parts (bits_of g.built.bits) g.built.bits.extras g.is_shown.faultless;
+    faultless = no_fault g.task.parts (bits_of g.built.bits) g.built.bits.extras g.is_shown.plain;
     is_package = is_package;
     have_pads = pinned_pads bonded (text_at t 2) g.task.constraints g.is_asked.circuit ports g.is_asked.are_constraints have_pads;
     at_ports = ports_driven g.is_asked.circuit ports g.task.parts g.built.bits bonded g.is_shown have_pads.of_package;

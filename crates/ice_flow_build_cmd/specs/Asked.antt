@@ -13,7 +13,7 @@ use Rattle.ice_flow_frame.specs.declared.cause.FileRole.{FileRole}
 use Rattle.ice_flow_frame.specs.declared.cause.FileRole.TheVariants.{Chip, Pcf, Blif, Asc, Pins, Report}
 use Rattle.ice_flow_frame.specs.Reading.{File, Files}
 use Rattle.ice_flow_frame.specs.Texts.{text_at}
-pub use Rattle.ice_flow_words.specs.Requests.{Build}
+pub use Rattle.ice_flow_words.specs.BuildRequest.{Build}
 
 -- how long to try, and from where
 abbrev pub effort_of : Build → Effort

@@ -1,6 +1,6 @@
 -- When a command that reads a chip text, a text of bits and the name of a package refuses them: only where the cause is true, and always
 -- there, unless the desk or the memory fails.
-use Rattle.std.specs.Prelude.{◌≡◌, ℕ, List}
+use Rattle.std.specs.Prelude.{◌≡◌, ℕ, Bool, List}
 use Rattle.ice_desk.specs.Desk.{Meaning}
 use Rattle.ice_chip.specs.declared.fault.ChipFault.{ChipFault}
 use Rattle.ice_asc.specs.declared.fault.AscFault.{AscFault}
@@ -29,6 +29,6 @@ abbrev pub IsBitsFault : Cause → Type 0
 IsBitsFault cause = (fault : DecodeFault) × (cause ≡ BadBits fault)
 
 -- status 15: exactly where the bits have a fault, with one that they have and that is looked for before the others
-pub record BitsRow (k : Command) (name : List ℕ) (old : Meaning) (cause : Cause) : Type 0 where
-  pub comes : ComesExactly k old IsBitsFault (IsFaulty name) cause
-  pub fault_is : (fault : DecodeFault) → cause ≡ BadBits fault → OfTexts k.files old (IsBadBits name fault)
+pub record BitsRow (rams : Bool) (k : Command) (name : List ℕ) (old : Meaning) (cause : Cause) : Type 0 where
+  pub comes : ComesExactly k old IsBitsFault (IsFaulty rams name) cause
+  pub fault_is : (fault : DecodeFault) → cause ≡ BadBits fault → OfTexts k.files old (IsBadBits rams name fault)

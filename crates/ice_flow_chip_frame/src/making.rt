@@ -32,8 +32,8 @@ fn make_of<D: Desk, M: ChipMaking>(
     ensures names_written { SameTest (D.may_write desk.old) (D.may_write desk.new) }
     ensures made { (output : Output)
         → IsMadeOf
-        (command_on_bits (with_chip chip.now (files_view files.now)) package_name.now
-        (M.stands making.now) (M.gives making.now) output)
+        (command_on_bits (M.rams making.now) (with_chip chip.now (files_view files.now))
+        package_name.now (M.stands making.now) (M.gives making.now) output)
         (D.seen desk.old) (D.seen desk.new) result }
     ensures given { 0 < length files.now → IsToldLong (D.seen desk.new) result }
 {
@@ -67,8 +67,8 @@ pub fn say_made_on_chip<D: Desk, M: ChipMaking>(
     ensures names_written { SameTest (D.may_write desk.old) (D.may_write desk.new) }
     ensures status { result.status ≡ status_of result.cause }
     ensures cause { IsTrueOf
-        (command_on_bits (with_chip chip.now (files_view files.now)) package_name.now
-        (M.stands making.now) (M.gives making.now) Aloud)
+        (command_on_bits (M.rams making.now) (with_chip chip.now (files_view files.now))
+        package_name.now (M.stands making.now) (M.gives making.now) Aloud)
         (D.seen desk.old) (D.seen desk.new) result.cause }
     ensures said { (D.seen desk.old).tells ≡ true
         → SaidBy Aloud (D.seen desk.old) (D.seen desk.new) result.cause }
@@ -100,8 +100,9 @@ pub fn write_made_on_chip<D: Desk, M: ChipMaking>(
     ensures names_written { SameTest (D.may_write desk.old) (D.may_write desk.new) }
     ensures status { result.status ≡ status_of result.cause }
     ensures cause { IsTrueOf
-        (command_on_bits (with_chip chip.now (files_view files.now)) package_name.now
-        (M.stands making.now) (M.gives making.now) (InFiles (files_view outputs.now)))
+        (command_on_bits (M.rams making.now) (with_chip chip.now (files_view files.now))
+        package_name.now (M.stands making.now) (M.gives making.now)
+        (InFiles (files_view outputs.now)))
         (D.seen desk.old) (D.seen desk.new) result.cause }
     ensures said { (D.seen desk.old).tells ≡ true
         → SaidBy (InFiles (files_view outputs.now)) (D.seen desk.old)

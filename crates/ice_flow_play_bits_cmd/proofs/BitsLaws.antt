@@ -1,5 +1,5 @@
 -- When each answer of `play-bits` comes, from how its texts stand.
-use Rattle.std.proofs.Common.{◌≡◌, ℕ, Bool, List, length, Result, Ok, Err, inl, inr, refl, sym, subst}
+use Rattle.std.proofs.Common.{◌≡◌, ℕ, Bool, List, length, Result, Ok, Err, inl, inr, refl, sym, subst, true}
 use Rattle.ice_desk.specs.Desk.{Meaning}
 use Rattle.ice_chip.specs.Database.{PackageRows}
 use Rattle.ice_sim_levels.specs.LevelTexts.{levels_of}
@@ -38,10 +38,10 @@ line_told bonded text cause m =
     of_levels (LineTold bonded text) bonded text cause (λ line is. is) (λ c done. of_done (LineTold bonded text) (λ arrangement tallies kept. tt) (λ role put. tt) c done) m
 
 never : (name : List ℕ) (t : List (List ℕ)) → StandsForPlayBits name t Usage → ⊥
-never name t m = elim (told (Then t) name t Usage m) [ inl so ↦ so | inr later ↦ line_told later.bonded (text_at t 3) Usage later.stands ]
+never name t m = elim (told true (Then t) name t Usage m) [ inl so ↦ so | inr later ↦ line_told later.bonded (text_at t 3) Usage later.stands ]
 
 bad_line : (name : List ℕ) (t : List (List ℕ)) (line : ℕ) → StandsForPlayBits name t (BadLevels line) → HasBadLine name line t
-bad_line name t line m = elim (told (Then t) name t (BadLevels line) m) [
+bad_line name t line m = elim (told true (Then t) name t (BadLevels line) m) [
   | inl so ↦ absurd so
   | inr later ↦ record {
     parts = later.parts;
@@ -55,7 +55,7 @@ bad_line name t line m = elim (told (Then t) name t (BadLevels line) m) [
 pub lawful : (p : PlayBits) → Lawful (play_bits p)
 lawful p = record {
   done = λ t made on counted cause g done.
-      configured_so (Then t) p.package_name t g.0.parts g.0.configuration g.0.bonded cause g.0.is_configured
+      configured_so true (Then t) p.package_name t g.0.parts g.0.configuration g.0.bonded cause g.0.is_configured
       (behind (levels_of (length g.0.bonded.pads) (text_at t 3)) BadLevels (λ levels. IsDone) g.0.levels cause g.0.levels_are done);
   never = never p.package_name;
 }
@@ -63,9 +63,9 @@ lawful p = record {
 pub alone : (p : PlayBits) → StandsAlone (play_bits p)
 alone p t made on counted cause g m =
     then_stands (levels_of (length g.0.bonded.pads) (text_at t 3)) BadLevels (λ levels. IsDone) g.0.levels cause g.0.levels_are
-    (then_so (Then t) p.package_name t g.0.parts g.0.configuration g.0.bonded cause g.0.is_configured m)
+    (then_so true (Then t) p.package_name t g.0.parts g.0.configuration g.0.bonded cause g.0.is_configured m)
 
-pub on_bits : (p : PlayBits) → IsOnBits (play_bits p) Then p.package_name
+pub on_bits : (p : PlayBits) → IsOnBits true (play_bits p) Then p.package_name
 on_bits p = record {
   lawful = lawful p;
   stands = λ t cause m. m;
@@ -78,4 +78,4 @@ levels_row p old new cause is line =
     comes (play_bits p) old new cause (λ c. c ≡ BadLevels line) (HasBadLine p.package_name line) (lawful p) is
     (λ e. of_weaker (files_of p) old (λ t. StandsForPlayBits p.package_name t (BadLevels line)) (HasBadLine p.package_name line) (λ t m. bad_line p.package_name t line m) (subst (λ (x : Cause). IsTrueOf (play_bits p) old new x) e is).0)
     (λ t h m. fault_alone (levels_of (length h.bonded.pads) (text_at t 3)) BadLevels (λ levels. IsDone) line cause h.is_line
-    (then_so (Then t) p.package_name t h.parts h.configuration h.bonded cause h.is_configured m))
+    (then_so true (Then t) p.package_name t h.parts h.configuration h.bonded cause h.is_configured m))

@@ -16,7 +16,7 @@ use ice_desk::Desk;
 use ice_flow_chip_frame::{ChipMaking, say_made_on_chip};
 use ice_flow_frame::{Cause, CommandFile, Done, FileRole, Made, Texts, made_text};
 use ice_flow_words::PlayBitsRequest;
-use ice_sim::play_chip;
+use ice_sim_chip_rams::play_chip;
 use ice_sim_levels::{LevelFault, read_levels};
 use std::alloc::Global;
 
@@ -25,9 +25,15 @@ use std::alloc::Global;
 struct Playing;
 
 impl ChipMaking for Playing {
+    ghost rams = { λ playing. true };
+
     ghost stands = { λ playing texts. LevelsStand (text_at texts 3) };
 
     ghost gives = { λ playing. IsMadeByPlayBits };
+
+    fn takes_rams(&self) -> bool {
+        true
+    }
 
     fn make(
         &self,
@@ -42,7 +48,7 @@ impl ChipMaking for Playing {
             Err(LevelFault::BadLine { line }) => return Err(Cause::BadLevels { line }),
             Err(LevelFault::NoMemory) => return Err(Cause::NoMemory),
         };
-        match play_chip(alloc, chip, circuit, bonded, &levels) {
+        match play_chip(alloc, chip, circuit, bonded.pads.as_slice(), &levels) {
             Ok(text) => made_text(alloc, text),
             Err(NoMemory) => Err(Cause::NoMemory),
         }

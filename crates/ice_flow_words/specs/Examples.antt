@@ -1,7 +1,8 @@
 -- What some words ask for.
 use Rattle.std.specs.Prelude.{◌≡◌, ◌^◌, ◌-◌, ◌++◌, true, false, Some, None, List, [], ◌∷◌, codes}
 use Rattle.clap.specs.Words.{Text}
-use Rattle.ice_flow_words.specs.Requests.{Build, ForBuild, ForBack, ForPlayNet, ForPlayBits, ForTime, ForSample}
+use Rattle.ice_flow_words.specs.Requests.{ForBuild, ForBack, ForPlayNet, ForPlayBits, ForTime, ForSample}
+use Rattle.ice_flow_words.specs.BuildRequest.{Build}
 use Rattle.ice_flow_words.specs.Reading.{request_of}
 
 -- five names, and every option as it is where it is not given

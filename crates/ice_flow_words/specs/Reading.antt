@@ -6,7 +6,8 @@ use Rattle.clap.specs.Words.{Row, Text, fault_of, first_of, subcommand_of}
 use Rattle.clap.specs.Walk.{is_empty}
 use Rattle.clap.specs.ValueTests.{is_unsigned_in}
 use Rattle.ice_flow_words.specs.Command.{command, most_number, most_rounds, most_workers}
-use Rattle.ice_flow_words.specs.Requests.{Build, Back, PlayNet, PlayBits, Time, Sample, Asked, ForBuild, ForBack, ForPlayNet, ForPlayBits, ForTime, ForSample}
+use Rattle.ice_flow_words.specs.Requests.{Back, PlayNet, PlayBits, Time, Sample, Asked, ForBuild, ForBack, ForPlayNet, ForPlayBits, ForTime, ForSample}
+use Rattle.ice_flow_words.specs.BuildRequest.{Build}
 
 -- what the second makes of what the first gives, where it gives anything
 infixl 10 ◌>>=◌

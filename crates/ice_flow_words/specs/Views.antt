@@ -1,8 +1,9 @@
 -- Requests of the program as the definitions see them.
-use Rattle.std.specs.Prelude.{◌≤◌, ℕ, ⊤, option_map}
+use Rattle.std.specs.Prelude.{◌≤◌, ⊤, option_map}
 use Rattle.ice_flow_words.specs.Command.{most_rounds, most_workers}
 use Rattle.ice_flow_words.specs.Requests.{Asked, ForBuild, ForBack, ForPlayNet, ForPlayBits, ForTime, ForSample}
 use Rattle.ice_flow_words.specs.Requests as asked
+use Rattle.ice_flow_words.specs.BuildRequest.{Build}
 use Rattle.ice_flow_words.specs.declared.request.BuildRequest.{BuildRequest}
 use Rattle.ice_flow_words.specs.declared.request.BackRequest.{BackRequest}
 use Rattle.ice_flow_words.specs.declared.request.PlayNetRequest.{PlayNetRequest}
@@ -12,7 +13,7 @@ use Rattle.ice_flow_words.specs.declared.request.SampleRequest.{SampleRequest}
 use Rattle.ice_flow_words.specs.declared.request.Request.{Request}
 use Rattle.ice_flow_words.specs.declared.request.Request.TheVariants as request
 
-abbrev pub build_view : BuildRequest → asked.Build
+abbrev pub build_view : BuildRequest → Build
 build_view w = record {
   chip = w.chip.now;
   package_name = w.package_name.now;

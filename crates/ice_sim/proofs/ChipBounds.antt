@@ -1,6 +1,6 @@
 -- The parts of a compiled chip stay within the pads, the stores and the slots.
 use Rattle.std.proofs.Common.{◌≡◌, ℕ, suc, ◌+◌, ◌<◌, ◌≤◌, Bool, true, false, cond, List, [], ◌∷◌, ◌++◌, length, map, Option, Some, None, All, refl, subst, arith, length-append}
-use Rattle.std.specs.Prelude.{◌==◌, ◌/◌, codes, slice_index_or}
+use Rattle.std.specs.Prelude.{◌==◌, ◌/◌, ◌-◌, nat_lt, codes, slice_index_or}
 use Rattle.std.proofs.lemmas.List.Elements.{All-append, All-nil, All-cons}
 use Rattle.ice_base.specs.declared.number.TileAt.{TileAt}
 use Rattle.ice_chip.specs.Database.{Parts}
@@ -9,6 +9,7 @@ use Rattle.ice_bits.specs.Configuration.{Bits}
 use Rattle.ice_base_values.specs.System.{reading}
 use Rattle.ice_decode.specs.declared.point.Point.{Point}
 use Rattle.ice_chip.specs.Names.{pad_output_name, output_enable_name, input_clock_name, output_clock_name, in_out_enable_name}
+use Rattle.ice_chip.specs.RamNames.{ram_name}
 use Rattle.ice_decode.specs.Cells.{has_flop}
 use Rattle.ice_decode.specs.Reads.{at_pin}
 use Rattle.ice_decode.specs.Pads.{is_enabled, pin_type, Store, CellStore, InputStore, OutputStore, stores, register_place, has_input_register, has_output_register}
@@ -20,7 +21,7 @@ use Rattle.ice_sim_sweep.specs.Feeds.{port_in, kept_in, linked, gate_in}
 use Rattle.ice_sim_sweep.specs.Plans.{IsLinkWithin, IsGateWithin, IsTapWithin, IsKeeperWithin}
 use Rattle.ice_sim_sweep.specs.Arrays.{links_from, gates_from, IsGateAt, IsFed, AreFed}
 use Rattle.ice_sim.specs.ChipSlots.{slot_in, pin_slot, number, cell_gate, pad_place, pad_register}
-use Rattle.ice_sim.specs.Layouts.{keeper_of, register_of, level_feed, input_feed, output_feed, store_keepers, store_feeds, next_slot, keepers_from, feeds_from, pad_tap, taps_from}
+use Rattle.ice_sim.specs.Layouts.{keeper_of, register_of, level_feed, input_feed, output_feed, store_keepers, store_feeds, next_slot, keepers_from, feeds_from, io_tap, ram_tap, no_tap, pad_tap, taps_from}
 use Rattle.ice_sim.proofs.Laying.{cell_gate_at, place_within, register_fits}
 
 -- ---- feeds
@@ -129,8 +130,8 @@ module _ (parts : Parts) (bits : Bits) (extras : List (ℕ × ℕ × ℕ)) (bond
       of true = register_fits (length bonded) (length (stores parts)) next (register_place parts pad) 1
       of false = tt
 
-  tap_within : (slots own : ℕ) → first ≤ slots → own < slots → (pad : Pad) → IsTapWithin slots (pad_tap parts bits layout own pad)
-  tap_within slots own le lt pad = by (pin_type parts bits pad / 4 == 5) (pin_type parts bits pad / 4 == 6) (pin_type parts bits pad / 4 == 10)
+  io_within : (slots own : ℕ) → first ≤ slots → own < slots → (pad : Pad) → IsTapWithin slots (io_tap parts bits layout own pad)
+  io_within slots own le lt pad = by (pin_type parts bits pad / 4 == 5) (pin_type parts bits pad / 4 == 6) (pin_type parts bits pad / 4 == 10)
     where
       level : pin_slot 0 parts layout pad.tile (pad_output_name pad.pio) < slots
       level = let below = pin_low 0 pad.tile (pad_output_name pad.pio) (omega arith) in omega arith
@@ -147,6 +148,28 @@ module _ (parts : Parts) (bits : Bits) (extras : List (ℕ × ℕ × ℕ)) (bond
       by false true enabled = record { level_within = level; enable_within = omega arith }
       by false false true = record { level_within = level; enable_within = enable }
       by false false false = record { level_within = omega arith; enable_within = omega arith }
+
+  ram_within : (slots : ℕ) → first ≤ slots → (t : TileAt) (n : ℕ) → IsTapWithin slots (ram_tap parts layout t n)
+  ram_within slots le t n = record { level_within = level; enable_within = by (n == 72) (n == 73) }
+    where
+      level : pin_slot 0 parts layout t (ram_name n) < slots
+      level = let below = pin_low 0 t (ram_name n) (omega arith) in omega arith
+
+      of_pin : (name : List ℕ) → pin_slot 1 parts layout t name < slots
+      of_pin name = let below = pin_low 1 t name (omega arith) in omega arith
+
+      by : (reads writes : Bool) → cond reads (pin_slot 1 parts layout t (ram_name 74)) (cond writes (pin_slot 1 parts layout t (ram_name 75)) 1) < slots
+      by true writes = of_pin (ram_name 74)
+      by false true = of_pin (ram_name 75)
+      by false false = omega arith
+
+  tap_within : (slots own : ℕ) → first ≤ slots → own < slots → (pad : Pad) → IsTapWithin slots (pad_tap parts bits layout own pad)
+  tap_within slots own le lt pad = by (nat_lt pad.pio 2) (nat_lt pad.pio 78)
+    where
+      by : (io ram : Bool) → IsTapWithin slots (cond io (io_tap parts bits layout own pad) (cond ram (ram_tap parts layout pad.tile (pad.pio - 2)) no_tap))
+      by true ram = io_within slots own le lt pad
+      by false true = ram_within slots le pad.tile (pad.pio - 2)
+      by false false = record { level_within = omega arith; enable_within = omega arith }
 
   pub taps_within : (slots : ℕ) → first ≤ slots → (pads : List Pad) (own : ℕ) → own + length pads ≤ slots → All (IsTapWithin slots) (taps_from parts bits layout own pads)
   taps_within slots le [] own few = All-nil (IsTapWithin slots)

@@ -1,6 +1,6 @@
 -- The levels of the points of a chip are those in their slots.
 use Rattle.std.proofs.Common.{◌≡◌, ℕ, suc, ◌+◌, ◌<◌, ◌≤◌, Bool, true, false, cond, List, [], ◌∷◌, ◌++◌, length, map, Option, Some, None, refl, ap, sym, ◌∙◌, subst, arith, length-append}
-use Rattle.std.specs.Prelude.{◌==◌, ◌/◌, ◌&&◌, option_map, unwrap_or}
+use Rattle.std.specs.Prelude.{◌==◌, ◌/◌, ◌-◌, ◌&&◌, nat_lt, option_map, unwrap_or}
 use Rattle.std.specs.List.{range_with_len}
 use Rattle.std.proofs.lemmas.List.{length-map, get_or-append-add}
 use Rattle.std.proofs.lemmas.List.FromFn.{length-range_with_len}
@@ -24,11 +24,13 @@ use Rattle.ice_net.specs.declared.driver.Drive.TheVariants.{Off}
 use Rattle.ice_net.specs.Drives.{level_drive}
 use Rattle.ice_decode.specs.declared.point.Point.{Point}
 use Rattle.ice_chip.specs.Names.{input_name, pad_output_name, output_enable_name}
+use Rattle.ice_chip.specs.RamNames.{ram_name}
 use Rattle.ice_decode.specs.Cells.{cells, logic_tiles, looked_up}
-use Rattle.ice_decode.specs.Reads.{wire_point, carry_point, points, count_points, at_pin, reads_at}
+use Rattle.ice_decode.specs.Reads.{wire_point, count_points, at_pin, reads_at}
+use Rattle.ice_decode.specs.Points.{carry_point, points}
 use Rattle.ice_decode.specs.Pads.{is_enabled, level_of, pad_gives, pin_type, pin_level, part_drive, stores, register_place, output_kept, has_output_register}
 use Rattle.ice_decode.specs.Loops.{IsOrderOf}
-use Rattle.ice_decode.specs.Meaning.{makes_at, chip_system, point_level, table_level, drive_at}
+use Rattle.ice_decode.specs.Meaning.{makes_at, chip_system, point_level, table_level, drive_at, pad_drive, is_ram_driven, ram_drive}
 use Rattle.ice_decode.proofs.PointPlaces.{wire_at}
 use Rattle.ice_sim_sweep.specs.Slots.{level_at}
 use Rattle.ice_sim_sweep.specs.Sweeps.{gate_level, tap_drive}
@@ -36,7 +38,7 @@ use Rattle.ice_sim_sweep.specs.declared.parts.Feed.{Feed}
 use Rattle.ice_sim_sweep.specs.declared.parts.Feed.TheVariants.{Nothing}
 use Rattle.ice_sim_sweep.specs.Arrays.{feed_level, feed_at, Obeys}
 use Rattle.ice_sim.specs.ChipSlots.{slot_in, pin_slot, cell_gate, pad_place, pad_register}
-use Rattle.ice_sim.specs.Layouts.{Layout, level_feed, input_feed, output_feed, part_tap, pad_tap, taps_from}
+use Rattle.ice_sim.specs.Layouts.{Layout, level_feed, input_feed, output_feed, part_tap, io_tap, ram_enable_slot, ram_tap, no_tap, pad_tap, taps_from}
 use Rattle.ice_sim.proofs.PointLevels.{place_level, level_is as pad_level_is, register_is, cell_makes}
 use Rattle.ice_sim.proofs.Laying.{IsLaid, zero_level, one_level, feed_left}
 
@@ -187,12 +189,42 @@ module _ (parts : Parts) (bits : Bits) (extras : List (ℕ × ℕ × ℕ)) (bond
       ap (λ b. feed_level levels kept values (cond b (pad_register parts pad 1) Nothing)) e
       ∙ register_is levels kept values (length (stores parts)) kept_long (register_place parts pad) 1
 
-  pad_is : (own : ℕ) (pad : Pad) → level_at values own ≡ feed_level levels kept values (output_feed parts bits pad)
-      → tap_drive values (pad_tap parts bits l.slots own pad) ≡ drive_at parts bits kept w pad
-  pad_is own pad fed =
+  io_is : (own : ℕ) (pad : Pad) → level_at values own ≡ feed_level levels kept values (output_feed parts bits pad)
+      → tap_drive values (io_tap parts bits l.slots own pad) ≡ pad_drive parts bits kept w pad
+  io_is own pad fed =
       part_is (pin_type parts bits pad / 4) own (pin_slot 0 parts l.slots pad.tile (pad_output_name pad.pio)) (pin_slot 0 parts l.slots pad.tile (output_enable_name pad.pio))
       (pin_level false parts w pad.tile (pad_output_name pad.pio)) (pin_level false parts w pad.tile (output_enable_name pad.pio)) (output_kept parts kept pad)
       (pin_zero pad.tile (pad_output_name pad.pio)) (pin_zero pad.tile (output_enable_name pad.pio)) (λ e. sym (fed ∙ output_is pad e))
+
+  -- the pins of block RAMs
+  ram_enabled : (t : TileAt) (n : ℕ) → level_at values (ram_enable_slot parts l.slots t n) ≡ is_ram_driven parts w t n
+  ram_enabled t n = by (n == 72) (n == 73)
+    where
+      by : (reads writes : Bool)
+          → level_at values (cond reads (pin_slot 1 parts l.slots t (ram_name 74)) (cond writes (pin_slot 1 parts l.slots t (ram_name 75)) 1))
+          ≡ cond reads (pin_level true parts w t (ram_name 74)) (cond writes (pin_level true parts w t (ram_name 75)) true)
+      by true writes = sym (pin_one t (ram_name 74))
+      by false true = sym (pin_one t (ram_name 75))
+      by false false = one_is
+
+  ram_is : (t : TileAt) (n : ℕ) → tap_drive values (ram_tap parts l.slots t n) ≡ ram_drive parts w t n
+  ram_is t n =
+      ap (λ b. cond b (level_drive (level_at values (pin_slot 0 parts l.slots t (ram_name n)))) Off) (ram_enabled t n)
+      ∙ ap (λ b. cond (is_ram_driven parts w t n) (level_drive b) Off) (sym (pin_zero t (ram_name n)))
+
+  no_drive : tap_drive values no_tap ≡ Off
+  no_drive = ap (λ b. cond b (level_drive (level_at values 0)) Off) zero_is
+
+  pad_is : (own : ℕ) (pad : Pad) → level_at values own ≡ feed_level levels kept values (output_feed parts bits pad)
+      → tap_drive values (pad_tap parts bits l.slots own pad) ≡ drive_at parts bits kept w pad
+  pad_is own pad fed = by (nat_lt pad.pio 2) (nat_lt pad.pio 78)
+    where
+      by : (io ram : Bool)
+          → tap_drive values (cond io (io_tap parts bits l.slots own pad) (cond ram (ram_tap parts l.slots pad.tile (pad.pio - 2)) no_tap))
+          ≡ cond io (pad_drive parts bits kept w pad) (cond ram (ram_drive parts w pad.tile (pad.pio - 2)) Off)
+      by true ram = io_is own pad fed
+      by false true = ram_is pad.tile (pad.pio - 2)
+      by false false = no_drive
 
   pub pads_are : (pads : List Pad) (own : ℕ) → Holds levels kept values own (map (output_feed parts bits) pads)
       → map (tap_drive values) (taps_from parts bits l.slots own pads) ≡ map (drive_at parts bits kept w) pads

@@ -1,27 +1,26 @@
 -- One step of a compiled chip is one step of its meaning.
-use Rattle.std.proofs.Common.{◌≡◌, ℕ, suc, ◌+◌, ◌<◌, ◌≤◌, Bool, false, List, [], ◌∷◌, ◌++◌, length, map, replicate, All, refl, ap, sym, ◌∙◌, subst, arith, length-append}
+use Rattle.std.proofs.Common.{◌≡◌, ℕ, suc, ◌+◌, ◌≤◌, Bool, false, List, [], ◌∷◌, ◌++◌, length, map, replicate, All, refl, ap, sym, ◌∙◌, subst, arith, length-append}
 use Rattle.std.proofs.lemmas.List.{get_or-replicate, length-replicate, length-map, get_or-append-add}
 use Rattle.ice_chip.specs.Database.{Parts}
 use Rattle.ice_chip.specs.declared.rows.Pad.{Pad}
 use Rattle.ice_bits.specs.Configuration.{Bits}
 use Rattle.ice_net.specs.declared.driver.Drive.{Drive}
 use Rattle.ice_decode.specs.declared.point.Point.{Point}
-use Rattle.ice_decode.specs.Pads.{Store, stores}
+use Rattle.ice_decode.specs.Pads.{stores}
 use Rattle.ice_decode.specs.Meaning.{point_level, drive_at, chip_step}
 use Rattle.ice_sim_sweep.specs.declared.parts.Memory.{Memory}
 use Rattle.ice_sim_sweep.specs.declared.parts.Feed.{Feed}
 use Rattle.ice_sim_sweep.specs.declared.parts.Feed.TheVariants.{Nothing}
 use Rattle.ice_sim_sweep.specs.declared.plan.SweepPlan.{SweepPlan}
-use Rattle.ice_sim_sweep.specs.Slots.{level_at}
 use Rattle.ice_sim_sweep.specs.Feeds.{port_in, kept_in}
 use Rattle.ice_sim_sweep.specs.Sweeps.{blank, kept_levels, copied, made, tap_drive, remembered}
 use Rattle.ice_sim_sweep.specs.Plans.{ArePartsWithin, IsLinkWithin, IsGateWithin, IsTapWithin, IsKeeperWithin, state_of, swept}
-use Rattle.ice_sim_sweep.specs.Arrays.{feed_level, feed_at, Obeys, AreFed, links_from, gates_from}
+use Rattle.ice_sim_sweep.specs.Arrays.{feed_level, Obeys, AreFed, links_from, gates_from}
 use Rattle.ice_sim.specs.Layouts.{feeds_from, output_feed, taps_from}
 use Rattle.ice_sim.specs.ChipRuns.{IsChipPlan, IsChipRun}
 use Rattle.ice_sim_sweep.proofs.Arrays.{third_long, swept_obeys}
 use Rattle.ice_sim.proofs.Laying.{IsLaid, all_laid, obeys_left}
-use Rattle.ice_sim.proofs.ChipLevels.{Holds, holds_left, holds_right, pads_are}
+use Rattle.ice_sim.proofs.ChipLevels.{Holds, pads_are}
 use Rattle.ice_sim.proofs.ChipStates.{followed, all_follow, state_is, kept_next, kept_blank, kept_long}
 use Rattle.ice_sim.proofs.ChipBounds.{fed_append, stores_fed, outputs_fed, ports_within, keeps_within, gates_within, taps_within, keepers_within}
 
@@ -40,7 +39,7 @@ module _ (parts : Parts) (bits : Bits) (extras : List (ℕ × ℕ × ℕ)) (bond
   abbrev own : List Feed
   own = feeds_from parts bits bonded p.layout.slots (length p.layout.feeds) (stores parts)
 
-  -- and those of the pads of the package
+  -- and those of the pads
   abbrev outputs : List Feed
   outputs = map (output_feed parts bits) bonded
 

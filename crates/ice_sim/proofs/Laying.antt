@@ -23,7 +23,7 @@ use Rattle.ice_decode.specs.declared.point.Point.TheVariants.{Wire, Carry}
 use Rattle.ice_decode.specs.declared.driver.Driver.{Driver}
 use Rattle.ice_decode.specs.declared.driver.Driver.TheVariants as driver
 use Rattle.ice_decode.specs.declared.role.Role.{Role}
-use Rattle.ice_decode.specs.declared.role.Role.TheVariants.{Plain, Output, LookUp, CarryOut, PadInput, Global, CarryIn, ClockEnable}
+use Rattle.ice_decode.specs.declared.role.Role.TheVariants.{Plain, Output, LookUp, CarryOut, PadInput, RamOutput, Global, CarryIn, ClockEnable}
 use Rattle.ice_decode.specs.Drivers.{role_of, driver as driver_of}
 use Rattle.ice_chip.specs.Names.{input_name}
 use Rattle.ice_decode.specs.Cells.{cells, has_carry, has_flop}
@@ -167,6 +167,7 @@ module _ (parts : Parts) (bits : Bits) (extras : List (ℕ × ℕ × ℕ)) (bond
       of : (b : Bool) → Fits (cond b (Own (pad_register parts pad 0)) (pad_slot parts bits bonded pad))
       of true = register_fits (length bonded) (length (stores parts)) next (register_place parts pad) 0
       of false = pad_fits pad
+  role_fits (RamOutput pad) cell = level_fits pad
   role_fits (Global n) cell = of (takes_pad parts extras n)
     where
       of : (b : Bool) → Fits (cond b (fed_slot parts bits bonded (gbufpin_of parts n)) (Shared (reading 0 (slot_in parts slots) (global_feed parts n))))

@@ -10,5 +10,4 @@ pub mod TilePlaces
 pub mod StoreLists
 pub mod StoreSteps
 pub mod Compiling
-pub mod ChipPlaying
 pub mod Turns

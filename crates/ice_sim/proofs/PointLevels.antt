@@ -17,14 +17,14 @@ use Rattle.ice_decode.specs.declared.point.Point.TheVariants.{Wire, Carry}
 use Rattle.ice_decode.specs.declared.driver.Driver.{Driver}
 use Rattle.ice_decode.specs.declared.driver.Driver.TheVariants as driver
 use Rattle.ice_decode.specs.declared.role.Role.{Role}
-use Rattle.ice_decode.specs.declared.role.Role.TheVariants.{Plain, Output, LookUp, CarryOut, PadInput, Global, CarryIn, ClockEnable}
+use Rattle.ice_decode.specs.declared.role.Role.TheVariants.{Plain, Output, LookUp, CarryOut, PadInput, RamOutput, Global, CarryIn, ClockEnable}
 use Rattle.ice_decode.specs.Drivers.{role_of, driver as driver_of}
 use Rattle.ice_decode.specs.Cells.{logic_tiles, tile_place, has_carry, has_flop, table_entry, looked_up}
 use Rattle.ice_decode.specs.Direct.{takes_pad}
 use Rattle.ice_decode.specs.Reads.{at_pin, cell_inputs, carry_into, carry_inputs, global_feed, role_reads, driven_reads, reads_at}
-use Rattle.ice_decode.specs.Pads.{is_enabled, level_of, pad_gives, stores, kept_at, register_place, register_at, input_kept, has_input_register}
-use Rattle.ice_chip.specs.Names.{input_name}
+use Rattle.ice_decode.specs.Pads.{is_enabled, level_of, pad_gives, stores, register_place, input_kept, has_input_register, kept_at}
 use Rattle.ice_decode.specs.Meaning.{passes, global_gives, role_makes, driven_makes, makes_at}
+use Rattle.ice_chip.specs.Names.{input_name}
 use Rattle.ice_sim_sweep.specs.declared.parts.Feed.TheVariants.{Nothing, Kept, Made}
 use Rattle.ice_sim.specs.declared.points.PointSlot.{PointSlot}
 use Rattle.ice_sim.specs.declared.points.PointSlot.TheVariants.{Shared, Own}
@@ -168,6 +168,7 @@ module _ (parts : Parts) (bits : Bits) (slots : List ℕ) (values : List Bool) (
         of : (b : Bool) → slot_level (cond b (Own (pad_register parts pad 0)) (pad_slot parts bits bonded pad)) ≡ cond b (input_kept parts kept pad) (pad_gives parts bits bonded levels pad)
         of true = register_is levels kept values (length (stores parts)) long (register_place parts pad) 0
         of false = pad_is pad
+    role_is next (RamOutput pad) = place_is (pad_place bonded pad) ∙ sym (level_is bonded levels pad)
     role_is next (Global n) = of (takes_pad parts extras n)
       where
         of : (b : Bool) → slot_level (cond b (fed_slot parts bits bonded (gbufpin_of parts n)) (Shared (reading 0 (slot_in parts slots) (global_feed parts n))))

@@ -10,11 +10,11 @@ use Rattle.ice_chip.specs.Database.{Parts, same_tile}
 use Rattle.ice_decode.specs.declared.point.Point.{Point}
 use Rattle.ice_decode.specs.declared.point.Point.TheVariants.{Wire, Carry}
 use Rattle.ice_decode.specs.Cells.{cells_in, logic_tiles, tile_place}
-use Rattle.ice_decode.specs.Reads.{points, count_points}
+use Rattle.ice_decode.specs.Reads.{count_points}
+use Rattle.ice_decode.specs.Points.{points}
 use Rattle.ice_decode.proofs.KeptLevels.{tile_at}
-use Rattle.ice_decode.proofs.PointPlaces.{cells_long}
+use Rattle.ice_decode.proofs.PointPlaces.{cells_long, StandsAs, point_cases}
 use Rattle.ice_base.proofs.Keys.{tile_self}
-use Rattle.ice_decode.proofs.PointPlaces.{StandsAs, point_cases}
 use Rattle.ice_sim.specs.ChipSlots.{cell_place, number}
 
 -- ---- tiles

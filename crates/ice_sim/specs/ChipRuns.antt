@@ -17,7 +17,7 @@ use Rattle.ice_sim_sweep.specs.Sweeps.{blank}
 use Rattle.ice_sim_sweep.specs.Arrays.{feed_at, IsWired}
 use Rattle.ice_sim.specs.Layouts.{Layout, laid, bare_layout, is_used, keepers_from, feeds_from, output_feed, taps_from}
 
--- a chip with bits, seen at the pads of a package, between two steps
+-- a chip with bits, seen at pads, between two steps
 pub record ChipRunData : Type 0 where
   pub parts : Parts
   pub configuration : Configuration
@@ -25,7 +25,7 @@ pub record ChipRunData : Type 0 where
   pub state : State
 
 -- ---- what is compiled
--- bits of a chip, compiled: behind the slots of points stand those of the stores, and behind them those of the pads of the package
+-- bits of a chip, compiled: behind the slots of points stand those of the stores, and behind them those of the pads
 pub record IsChipPlan (parts : Parts) (bits : Bits) (extras : List (ℕ × ℕ × ℕ)) (bonded : List Pad) (feeds : List Feed) (plan : SweepPlan) : Type 0 where
   pub chip : IsChip parts
   pub order : List Point

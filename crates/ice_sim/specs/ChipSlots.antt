@@ -15,7 +15,7 @@ use Rattle.ice_decode.specs.declared.point.Point.TheVariants.{Wire, Carry}
 use Rattle.ice_decode.specs.declared.driver.Driver.{Driver}
 use Rattle.ice_decode.specs.declared.driver.Driver.TheVariants as driver
 use Rattle.ice_decode.specs.declared.role.Role.{Role}
-use Rattle.ice_decode.specs.declared.role.Role.TheVariants.{Plain, Output, LookUp, CarryOut, PadInput, Global, CarryIn, ClockEnable}
+use Rattle.ice_decode.specs.declared.role.Role.TheVariants.{Plain, Output, LookUp, CarryOut, PadInput, RamOutput, Global, CarryIn, ClockEnable}
 use Rattle.ice_decode.specs.Drivers.{role_of, driver as driver_of}
 use Rattle.ice_decode.specs.Cells.{logic_tiles, tile_place, has_carry, has_flop, table_entry}
 use Rattle.ice_decode.specs.Direct.{takes_pad}
@@ -80,12 +80,12 @@ carry_gate parts slots out t i = slots_gate majority_table (slots_read parts slo
 abbrev pub table_slot : Parts → Bits → List ℕ → ℕ → TileAt → ℕ → PointSlot
 table_slot parts bits slots next t i = if table_of parts bits t i == 0 then Shared 0 else Own (Made (cell_gate parts bits slots next t i))
 
--- the place of a pad among those of the package
+-- the place of a pad among those that have levels
 abbrev pub pad_place : List Pad → Pad → Option ℕ
 pad_place [] pad = None
 pad_place (p ∷ bonded) pad = if same_pad p pad then Some 0 else option_map suc (pad_place bonded pad)
 
--- a pad outside the package has no level of its own, nor one whose input buffer is off
+-- a pad that isn't among those with levels has no level of its own, nor one whose input buffer is off
 abbrev pub level_slot : Option ℕ → PointSlot
 level_slot None = Shared 0
 level_slot (Some k) = Own (FromPort k)
@@ -118,6 +118,7 @@ role_slot parts bits extras bonded slots next (Output t i) = if has_flop parts b
 role_slot parts bits extras bonded slots next (LookUp t i) = table_slot parts bits slots next t i
 role_slot parts bits extras bonded slots next (CarryOut t i) = Shared (slot_in parts slots (Carry t i))
 role_slot parts bits extras bonded slots next (PadInput pad) = if has_input_register parts bits pad then Own (pad_register parts pad 0) else pad_slot parts bits bonded pad
+role_slot parts bits extras bonded slots next (RamOutput pad) = level_slot (pad_place bonded pad)
 role_slot parts bits extras bonded slots next (Global n) =
     if takes_pad parts extras n then fed_slot parts bits bonded (gbufpin_of parts n) else Shared (reading 0 (slot_in parts slots) (global_feed parts n))
 role_slot parts bits extras bonded slots next (CarryIn t) = Shared (if set_at parts bits t (codes "CarryInSet") 0 then 1 else 0)

@@ -1,6 +1,6 @@
 -- What a configured chip is compiled to: the slots of its points and what feeds them, its flip-flops and registers, and what its pads
 -- drive.
-use Rattle.std.specs.Prelude.{ℕ, ◌+◌, ◌<◌, ◌/◌, ◌==◌, Bool, false, Option, None, Some, List, [], ◌∷◌, ◌++◌, map, length, replicate, slice_set, if◌then◌else◌, codes}
+use Rattle.std.specs.Prelude.{ℕ, ◌+◌, ◌-◌, ◌<◌, ◌/◌, ◌==◌, nat_lt, Bool, false, Option, None, Some, List, [], ◌∷◌, ◌++◌, length, replicate, slice_set, if◌then◌else◌, codes}
 use Rattle.std.proofs.Common.{suc}
 use Rattle.ice_base.specs.declared.number.TileAt.{TileAt}
 use Rattle.ice_chip.specs.Database.{Parts}
@@ -10,6 +10,7 @@ use Rattle.ice_bits.specs.Settings.{set_at}
 use Rattle.ice_net.specs.declared.kind.Reset.TheVariants as reset
 use Rattle.ice_decode.specs.declared.point.Point.{Point}
 use Rattle.ice_chip.specs.Names.{pad_output_name, output_enable_name, input_clock_name, output_clock_name, in_out_enable_name}
+use Rattle.ice_chip.specs.RamNames.{ram_name}
 use Rattle.ice_decode.specs.Cells.{has_flop, reset_of}
 use Rattle.ice_decode.specs.Reads.{count_points}
 use Rattle.ice_decode.specs.Pads.{is_enabled, pin_type, Store, CellStore, InputStore, OutputStore, cell_store, has_input_register, has_output_register}
@@ -133,7 +134,7 @@ feeds_from parts bits bonded slots next (s ∷ stores) =
     store_feeds parts bits bonded slots next s ++ feeds_from parts bits bonded slots (next_slot parts bits bonded slots next s) stores
 
 -- ---- pads
--- what a pad is driven with that is driven with what a register keeps; each pad of the package has a slot for it
+-- what a pad is driven with that is driven with what a register keeps; each of the pads has a slot for it
 abbrev pub output_feed : Parts → Bits → Pad → Feed
 output_feed parts bits pad = if has_output_register parts bits pad then pad_register parts pad 1 else Nothing
 
@@ -143,9 +144,23 @@ part_tap part own level enable =
     if part == 5 then (record { level = own; enable = 1 })
     else (if part == 6 then (record { level = level; enable = 1 }) else (if part == 10 then (record { level = level; enable = enable }) else (record { level = 0; enable = 0 })))
 
+abbrev pub io_tap : Parts → Bits → List ℕ → ℕ → Pad → Tap
+io_tap parts bits slots own pad =
+    part_tap (pin_type parts bits pad / 4) own (pin_slot 0 parts slots pad.tile (pad_output_name pad.pio)) (pin_slot 0 parts slots pad.tile (output_enable_name pad.pio))
+
+-- the slot of whether the pin of this number of a block RAM is driven, and what drives it
+abbrev pub ram_enable_slot : Parts → List ℕ → TileAt → ℕ → ℕ
+ram_enable_slot parts slots t n = if n == 72 then pin_slot 1 parts slots t (ram_name 74) else (if n == 73 then pin_slot 1 parts slots t (ram_name 75) else 1)
+
+abbrev pub ram_tap : Parts → List ℕ → TileAt → ℕ → Tap
+ram_tap parts slots t n = record { level = pin_slot 0 parts slots t (ram_name n); enable = ram_enable_slot parts slots t n }
+
+abbrev pub no_tap : Tap
+no_tap = record { level = 0; enable = 0 }
+
 abbrev pub pad_tap : Parts → Bits → List ℕ → ℕ → Pad → Tap
 pad_tap parts bits slots own pad =
-    part_tap (pin_type parts bits pad / 4) own (pin_slot 0 parts slots pad.tile (pad_output_name pad.pio)) (pin_slot 0 parts slots pad.tile (output_enable_name pad.pio))
+    if nat_lt pad.pio 2 then io_tap parts bits slots own pad else (if nat_lt pad.pio 78 then ram_tap parts slots pad.tile (pad.pio - 2) else no_tap)
 
 -- what drives these pads, where the first has the slot `own`
 abbrev pub taps_from : Parts → Bits → List ℕ → ℕ → List Pad → List Tap

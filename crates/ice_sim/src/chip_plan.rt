@@ -17,7 +17,7 @@ use crate::configured::ConfiguredChip;
 use crate::layout::{constant_feeds, lay};
 use crate::stores::{Stores, small};
 use ice_base::NoMemory;
-use ice_chip::{Chip, Package};
+use ice_chip::{Chip, Pad};
 use ice_decode::{Circuit, Point};
 use ice_sim_sweep::{Feed, Keeper, SweepPlan, wired};
 use std::alloc::Global;
@@ -84,7 +84,7 @@ fn keepers(
     Ok(keepers)
 }
 
-// The plan of a chip whose slots have these feeds, and which keeps levels so; what feeds the slots of the pads of the package is added.
+// The plan of a chip whose slots have these feeds, and which keeps levels so; what feeds the slots of the pads is added.
 fn plan_of(
     alloc: Global,
     configured: &ConfiguredChip<'_>,
@@ -133,14 +133,14 @@ pub(crate) fn compile_chip(
     alloc: Global,
     chip: &Chip,
     circuit: &Circuit,
-    package: &Package,
+    pads: &[Pad],
     stores: &Stores,
 ) -> Result<(SweepPlan, Vec<bool>), NoMemory>
     requires stores { AreStoresOf chip.now stores.now }
     requires circuit { IsCircuitOf chip.now circuit.now.configuration circuit.now }
     ensures { IfOk result (λ compiled. IsCompiled chip.now (bits_of circuit.now.configuration)
-        circuit.now.configuration.extras «package».now.pads.keys compiled.0 compiled.1.items) }
+        circuit.now.configuration.extras pads.now compiled.0 compiled.1.items) }
 {
-    let configured = ConfiguredChip::new(alloc, chip, circuit, package, stores)?;
+    let configured = ConfiguredChip::new(alloc, chip, circuit, pads, stores)?;
     compile_configured(alloc, &configured, stores, circuit.order())
 }

@@ -8,19 +8,19 @@ ghost use Rattle.ice_sim.specs.ChipRuns.{with_state};
 use crate::chip_plan::compile_chip;
 use crate::stores::chip_stores;
 use ice_base::NoMemory;
-use ice_chip::{Chip, Package};
+use ice_chip::{Chip, Pad};
 use ice_decode::Circuit;
 use ice_net::Drive;
 use ice_sim_sweep::{Memory, SweepPlan, blanks, sweep};
 use std::alloc::Global;
 use std::marker::Model;
 
-/// A run of a configured chip, seen at the pads of a package. Contracts see the chip, its bits, those pads and the state.
+/// A run of a configured chip, seen at pads, which have levels too. Contracts see the chip, its bits, those pads and the state.
 #[derive(Drop)]
 pub struct ChipRun<'a> {
     chip: &'a Chip,
     circuit: &'a Circuit,
-    package: &'a Package,
+    pads: &'a [Pad],
     plan: SweepPlan,
     // What each store keeps: the flip-flops of logic cells, and the registers of pads.
     memories: Vec<Memory>,
@@ -49,30 +49,30 @@ impl<'a> ChipRun<'a> {
         alloc: Global,
         chip: &'a Chip,
         circuit: &'a Circuit,
-        package: &'a Package,
+        pads: &'a [Pad],
     ) -> Result<ChipRun<'a>, NoMemory>
         requires { IsCircuitOf chip.now circuit.now.configuration circuit.now }
         ensures { IfOk result (λ run. run ≡ record {
           parts = chip.now;
           configuration = circuit.now.configuration;
-          bonded = «package».now.pads.keys;
+          bonded = pads.now;
           state = chip_start chip.now;
         }) }
     {
         let stores = chip_stores(alloc, chip)?;
-        let (plan, values) = compile_chip(alloc, chip, circuit, package, &stores)?;
+        let (plan, values) = compile_chip(alloc, chip, circuit, pads, &stores)?;
         let memories = blanks(alloc, stores.count()? as usize)?;
         Ok(ChipRun {
             chip,
             circuit,
-            package,
+            pads,
             plan,
             memories,
             values,
         })
     }
 
-    /// One step: `levels` has the level of each pad of the package, and `out` becomes what the chip drives each of them with. Its time
+    /// One step: `levels` has the level of each of the pads, and `out` becomes what the chip drives each of them with. Its time
     /// is linear in the numbers of these pads and of the flip-flops, registers, tables and carries in use, and it takes no memory.
     pub fn step(&mut self, levels: &[bool], out: &mut [Drive])
         requires levels { length levels.now ≡ length self.old.bonded }

@@ -1,5 +1,6 @@
 //! Configured chips, as they are compiled.
 ghost use Rattle.std.specs.Prelude.{◌≡◌, ◌<◌, ◌^◌, [], IfOk, IfSome, OnOk};
+ghost use Rattle.ice_chip.specs.Database.{same_tile, same_pad};
 ghost use Rattle.ice_bits.specs.Configuration.{bits_of};
 ghost use Rattle.ice_decode.specs.Drivers.{driver};
 ghost use Rattle.ice_decode.specs.Refusals.{IsCircuitOf};
@@ -13,19 +14,21 @@ ghost use Rattle.ice_sim.specs.ConfiguredChips.{AreStoresOf, with_place, with_pl
 use crate::stores::{Stores, io_tiles, small};
 use ice_base::{NoMemory, TileAt, WireNo};
 use ice_bits::Bits;
-use ice_chip::{Chip, Package, Pad};
+use ice_chip::{Chip, Pad};
 use ice_decode::{Circuit, Driver, Point, at_pin, logic_tiles};
 use ice_sim_sweep::Feed;
-use indexmap::{IndexMap, IndexSet};
+use indexmap::IndexMap;
 use std::alloc::Global;
 use std::marker::Model;
 
-/// A configured chip, seen at the pads of a package. Contracts see the chip, its bits and those pads.
+/// A configured chip, seen at pads, which have levels too. Contracts see the chip, its bits and those pads.
 #[derive(Drop)]
 pub struct ConfiguredChip<'a> {
     chip: &'a Chip,
     circuit: &'a Circuit,
-    package: &'a Package,
+    pads: &'a [Pad],
+    // The first place of each pad among them.
+    pad_places: IndexMap<Pad, u32>,
     // The number of the wires.
     wires: u32,
     // The place of each logic tile among them.
@@ -50,7 +53,8 @@ impl<'a> Model for ConfiguredChip<'a> {
 
 // Notes the place of a tile that has none yet.
 fn note_place(places: &mut IndexMap<TileAt, u32>, tile: TileAt, place: u32) -> Result<(), NoMemory>
-    ensures { OnOk result (places.new.entries ≡ with_place tile place places.old.entries) }
+    ensures { OnOk result
+        (places.new.entries ≡ with_place same_tile tile place places.old.entries) }
 {
     if places.get(&tile).is_none() {
         places.insert(tile, place)?;
@@ -60,7 +64,7 @@ fn note_place(places: &mut IndexMap<TileAt, u32>, tile: TileAt, place: u32) -> R
 
 // The place of each of these tiles among them.
 fn tile_places(alloc: Global, tiles: &[TileAt]) -> Result<IndexMap<TileAt, u32>, NoMemory>
-    ensures { IfOk result (λ places. places.entries ≡ with_places 0 tiles.now []) }
+    ensures { IfOk result (λ places. places.entries ≡ with_places same_tile 0 tiles.now []) }
 {
     let mut places = IndexMap::new(alloc);
     for (k, tile) in tiles.iter().enumerate() {
@@ -69,9 +73,31 @@ fn tile_places(alloc: Global, tiles: &[TileAt]) -> Result<IndexMap<TileAt, u32>,
     Ok(places)
 }
 
+// Notes the place of a pad that has none yet.
+fn note_pad(places: &mut IndexMap<Pad, u32>, pad: Pad, place: u32) -> Result<(), NoMemory>
+    ensures { OnOk result (places.new.entries ≡ with_place same_pad pad place places.old.entries) }
+{
+    if places.get(&pad).is_none() {
+        places.insert(pad, place)?;
+    }
+    Ok(())
+}
+
+// The first place of each of these pads among them.
+fn pad_places(alloc: Global, pads: &[Pad]) -> Result<IndexMap<Pad, u32>, NoMemory>
+    ensures { IfOk result (λ places. places.entries ≡ with_places same_pad 0 pads.now []) }
+{
+    let mut places = IndexMap::new(alloc);
+    for (k, pad) in pads.iter().enumerate() {
+        note_pad(&mut places, *pad, small(k)?)?;
+    }
+    Ok(places)
+}
+
 // The place of each logic tile among them.
 fn logic_places(alloc: Global, chip: &Chip) -> Result<IndexMap<TileAt, u32>, NoMemory>
-    ensures { IfOk result (λ places. places.entries ≡ with_places 0 (logic_tiles chip.now) []) }
+    ensures { IfOk result (λ places.
+        places.entries ≡ with_places same_tile 0 (logic_tiles chip.now) []) }
 {
     let tiles = logic_tiles(alloc, chip)?;
     let places = tile_places(alloc, &tiles)?;
@@ -80,7 +106,8 @@ fn logic_places(alloc: Global, chip: &Chip) -> Result<IndexMap<TileAt, u32>, NoM
 
 // The place of each IO tile among them.
 fn io_places(alloc: Global, chip: &Chip) -> Result<IndexMap<TileAt, u32>, NoMemory>
-    ensures { IfOk result (λ places. places.entries ≡ with_places 0 (io_tiles chip.now) []) }
+    ensures { IfOk result (λ places.
+        places.entries ≡ with_places same_tile 0 (io_tiles chip.now) []) }
 {
     let tiles = io_tiles(alloc, chip)?;
     let places = tile_places(alloc, &tiles)?;
@@ -94,7 +121,7 @@ impl<'a> ConfiguredChip<'a> {
         alloc: Global,
         chip: &'a Chip,
         circuit: &'a Circuit,
-        package: &'a Package,
+        pads: &'a [Pad],
         stores: &Stores,
     ) -> Result<ConfiguredChip<'a>, NoMemory>
         requires circuit { IsCircuitOf chip.now circuit.now.configuration circuit.now }
@@ -102,17 +129,19 @@ impl<'a> ConfiguredChip<'a> {
         ensures { IfOk result (λ configured. configured ≡ record {
           parts = chip.now;
           configuration = circuit.now.configuration;
-          bonded = «package».now.pads.keys;
+          bonded = pads.now;
         }) }
     {
         let cells = small(stores.cells.len())?;
         let stores = stores.count()?;
         let logic_places = logic_places(alloc, chip)?;
         let io_places = io_places(alloc, chip)?;
+        let pad_places = pad_places(alloc, pads)?;
         Ok(ConfiguredChip {
             chip,
             circuit,
-            package,
+            pads,
+            pad_places,
             wires: chip.wires(),
             logic_places,
             io_places,
@@ -135,11 +164,11 @@ impl<'a> ConfiguredChip<'a> {
         self.circuit.bits()
     }
 
-    /// The pads of the package.
-    pub(crate) fn pads(&self) -> &IndexSet<Pad>
-        ensures { result.now.keys ≡ self.now.bonded }
+    /// The pads at which it is seen.
+    pub(crate) fn pads(&self) -> &[Pad]
+        ensures { result.now ≡ self.now.bonded }
     {
-        &self.package.pads
+        self.pads
     }
 
     /// What drives a wire of the chip.
@@ -152,12 +181,12 @@ impl<'a> ConfiguredChip<'a> {
         self.circuit.drivers()[wire.0 as usize]
     }
 
-    /// The place of a pad among those of the package; None where it is none of them.
+    /// The place of a pad among those at which the chip is seen; None where it is none of them.
     #[tactic(auto, using(crate::proofs::TilePlaces::pad_found))]
     pub(crate) fn pad_place(&self, pad: Pad) -> Option<usize>
         ensures { result ≡ pad_place self.now.bonded pad }
     {
-        self.package.pads.get_index_of(&pad)
+        self.pad_places.get(&pad).map(|place| *place as usize)
     }
 
     // The place of a tile among the logic tiles.

@@ -3,7 +3,6 @@
 
 mod chip_flops;
 mod chip_plan;
-mod chip_playing;
 mod chip_registers;
 mod chip_run;
 mod chip_taps;
@@ -14,7 +13,6 @@ mod point_slots;
 mod points;
 mod stores;
 
-pub use chip_playing::play_chip;
 pub use chip_run::ChipRun;
 pub use ice_net::Drive;
 pub use ice_sim_sweep::{NetRun, play};

@@ -9,7 +9,7 @@ ghost use Rattle.ice_decode.specs.Meaning.{passes};
 ghost use Rattle.ice_bits.specs.Settings.{set_at};
 ghost use Rattle.ice_decode.specs.declared.point.Point.TheVariants.{Wire};
 ghost use Rattle.ice_decode.specs.declared.role.Role.TheVariants.{Output, PadInput, Global};
-ghost use Rattle.ice_sim.specs.ChipSlots.{slot_in, kept_slot, table_slot, level_slot, pad_slot, fed_slot, role_slot, driven_slot, point_slot};
+ghost use Rattle.ice_sim.specs.ChipSlots.{slot_in, kept_slot, table_slot, pad_place, level_slot, pad_slot, fed_slot, role_slot, driven_slot, point_slot};
 
 use crate::configured::ConfiguredChip;
 use crate::gates::{carry_gate, cell_gate, table};
@@ -100,6 +100,13 @@ fn input_slot(configured: &ConfiguredChip<'_>, pad: Pad) -> PointSlot
     pad_slot(configured, pad)
 }
 
+// The slot of the level of an output of a block RAM, which is that of its pin.
+fn ram_slot(configured: &ConfiguredChip<'_>, pad: Pad) -> PointSlot
+    ensures { result ≡ level_slot (pad_place configured.now.bonded pad) }
+{
+    level_slot(configured.pad_place(pad))
+}
+
 // The slot of the level of the pad that feeds a global.
 fn fed_slot(configured: &ConfiguredChip<'_>, pad: Option<Pad>) -> PointSlot
     ensures { result ≡ fed_slot configured.now.parts (bits_of configured.now.configuration)
@@ -155,6 +162,7 @@ fn role_slot(configured: &ConfiguredChip<'_>, slots: &[u32], next: u32, role: Ro
             PointSlot::Shared(configured.slot_in(slots, Point::Carry { tile, cell }))
         }
         Role::PadInput(pad) => input_slot(configured, pad),
+        Role::RamOutput(pad) => ram_slot(configured, pad),
         Role::Global(global) => global_slot(configured, slots, global),
         Role::CarryIn(tile) => PointSlot::Shared(carry_in_slot(configured, tile)),
         Role::ClockEnable => PointSlot::Shared(1),

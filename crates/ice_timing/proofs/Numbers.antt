@@ -1,8 +1,8 @@
 -- The latest of some numbered points.
-use Rattle.std.proofs.Common.{◌≡◌, ◌⊎◌, ℕ, zero, suc, ◌+◌, ◌<◌, ◌≤◌, All, List, [], ◌∷◌, length, map, get_or, Option, Some, None, inl, inr, refl, sym, ap, ◌∙◌, subst, arith}
+use Rattle.std.proofs.Common.{◌≡◌, ◌⊎◌, ℕ, ◌+◌, ◌<◌, ◌≤◌, All, List, [], ◌∷◌, length, map, get_or, Option, Some, None, inl, inr, refl, sym, ap, ◌∙◌, subst, arith}
 use Rattle.std.specs.Prelude.{slice_get, slice_index_or, IfNone, IfSome}
 use Rattle.std.proofs.lemmas.Bool.{cases_eq}
-use Rattle.std.proofs.lemmas.Option.{same_Some, slice_get-get_or, get_or_from_slice_get}
+use Rattle.std.proofs.lemmas.Option.{slice_get-get_or, get_or_from_slice_get}
 use Rattle.ice_base_values.specs.Order.{At, Has}
 use Rattle.ice_base_values.proofs.Members.{Has_all, Has_read, At_map, map_At, At_within}
 use Rattle.ice_base_values.proofs.Places.{At_same}
@@ -13,7 +13,7 @@ use Rattle.ice_decode.specs.declared.point.Point.{Point}
 use Rattle.ice_decode.specs.Points.{HasWire, AreAllPoints, IsNumbered}
 use Rattle.ice_decode.specs.Reads.{reads_at}
 use Rattle.ice_decode.proofs.Numbered.{has_wire, reads_numbered}
-use Rattle.ice_timing.specs.Arriving.{ArrivalsData, Arrives, IsLatestPoint}
+use Rattle.ice_timing.specs.Arriving.{ArrivalsData, IsLatestPoint}
 use Rattle.ice_timing.specs.Latest.{IsLatestOf, IsLatestRead, IsLatest}
 
 -- ---- as the numbers are gone over

@@ -1,14 +1,14 @@
 -- The points by which a path gets into an end are points of the chip.
-use Rattle.std.proofs.Common.{◌≡◌, ◌⊎◌, ℕ, zero, suc, ◌+◌, ◌*◌, ◌<◌, All, Bool, true, false, cond, List, [], ◌∷◌, ◌++◌, get_or, Some, None, Option, inl, inr, refl, sym, ap, ◌∙◌, subst, map}
+use Rattle.std.proofs.Common.{◌≡◌, ℕ, zero, suc, ◌<◌, Bool, true, false, cond, List, [], ◌∷◌, ◌++◌, Some, None, Option, inl, inr, refl, subst, map}
 use Rattle.std.specs.Prelude.{option_map, ◌/◌, ◌==◌}
 use Rattle.std.specs.List.{flat_map}
-use Rattle.std.proofs.lemmas.Option.{none-some, same_Some}
+use Rattle.std.proofs.lemmas.Option.{same_Some}
 use Rattle.std.proofs.lemmas.List.Elements.{All-map, All-filter}
 use Rattle.ice_base.specs.declared.number.TileAt.{TileAt}
 use Rattle.ice_base.proofs.Entries.{lookup_all}
 use Rattle.ice_base_values.specs.System.{present}
-use Rattle.ice_base_values.specs.Order.{At, Has}
-use Rattle.ice_base_values.proofs.Members.{Has_none, Has_cases, Has_read, map_Has}
+use Rattle.ice_base_values.specs.Order.{Has}
+use Rattle.ice_base_values.proofs.Members.{Has_none, map_Has}
 use Rattle.ice_chip.specs.Database.{Parts, WireName}
 use Rattle.ice_chip.specs.IsRead.{IsRead}
 use Rattle.ice_chip.specs.Lookups.{wire_named, placed_at, placed_wire, placed_names, is_placed}
@@ -21,7 +21,8 @@ use Rattle.ice_bits.specs.Configuration.{Bits}
 use Rattle.ice_decode.specs.declared.point.Point.{Point}
 use Rattle.ice_decode.specs.Cells.{eight, logic_tiles, has_flop}
 use Rattle.ice_decode.specs.Pads.{pads, pin_type}
-use Rattle.ice_decode.specs.Reads.{points, wire_point, at_pin, cell_inputs}
+use Rattle.ice_decode.specs.Reads.{wire_point, at_pin, cell_inputs}
+use Rattle.ice_decode.specs.Points.{points}
 use Rattle.ice_decode.proofs.Members.{Has_append_cases}
 use Rattle.ice_decode.proofs.PointPlaces.{wire_at}
 use Rattle.ice_timing.specs.declared.end.End.{End}

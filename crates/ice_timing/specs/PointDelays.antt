@@ -1,5 +1,5 @@
 -- When a signal is at a point that depends on nothing, and how long it takes to get through any other. All in picoseconds.
-use Rattle.std.specs.Prelude.{◌≡◌, ℕ, ◌&&◌, Bool, List, [], is_some, if◌then◌else◌}
+use Rattle.std.specs.Prelude.{ℕ, ◌&&◌, Bool, List, is_some, if◌then◌else◌}
 use Rattle.ice_chip.specs.Database.{Parts}
 use Rattle.ice_chip.specs.Lookups.{gbufpin_of}
 use Rattle.ice_bits.specs.Configuration.{Bits}
@@ -8,7 +8,7 @@ use Rattle.ice_decode.specs.declared.point.Point.TheVariants.{Wire, Carry}
 use Rattle.ice_decode.specs.declared.driver.Driver.{Driver}
 use Rattle.ice_decode.specs.declared.driver.Driver.TheVariants.{Nothing, By, Several}
 use Rattle.ice_decode.specs.declared.role.Role.{Role}
-use Rattle.ice_decode.specs.declared.role.Role.TheVariants.{Plain, Output, LookUp, CarryOut, PadInput, Global, CarryIn, ClockEnable}
+use Rattle.ice_decode.specs.declared.role.Role.TheVariants.{Plain, Output, LookUp, CarryOut, PadInput, RamOutput, Global, CarryIn, ClockEnable}
 use Rattle.ice_decode.specs.Cells.{has_flop}
 use Rattle.ice_decode.specs.Direct.{takes_pad}
 use Rattle.ice_decode.specs.Drivers.{driver, role_of}
@@ -29,6 +29,7 @@ role_start parts bits extras d (Output t i) = if has_flop parts bits t i then d.
 role_start parts bits extras d (LookUp t i) = 0
 role_start parts bits extras d (CarryOut t i) = 0
 role_start parts bits extras d (PadInput pad) = if has_input_register parts bits pad then d.clock_to_q else d.pad_in
+role_start parts bits extras d (RamOutput pad) = d.clock_to_q
 role_start parts bits extras d (Global n) = if is_fed_by_pad parts extras n then d.pad_in else 0
 role_start parts bits extras d (CarryIn t) = 0
 role_start parts bits extras d ClockEnable = 0
@@ -52,6 +53,7 @@ role_delay d (Output t i) = d.lut
 role_delay d (LookUp t i) = d.lut
 role_delay d (CarryOut t i) = 0
 role_delay d (PadInput pad) = 0
+role_delay d (RamOutput pad) = 0
 role_delay d (Global n) = d.switch
 role_delay d (CarryIn t) = 0
 role_delay d ClockEnable = 0

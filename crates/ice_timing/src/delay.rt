@@ -55,6 +55,7 @@ fn role_start(chip: &Chip, circuit: &Circuit, delays: &Delays, role: Role) -> u3
                 delays.pad_in
             }
         }
+        Role::RamOutput(_) => delays.clock_to_q,
         Role::Global(global) => start_if(is_fed_by_pad(chip, circuit, global), delays.pad_in),
         Role::Plain
         | Role::LookUp { .. }
@@ -91,6 +92,7 @@ fn role_delay(delays: &Delays, role: Role) -> u32
         Role::Plain
         | Role::CarryOut { .. }
         | Role::PadInput(_)
+        | Role::RamOutput(_)
         | Role::CarryIn(_)
         | Role::ClockEnable => 0,
     }

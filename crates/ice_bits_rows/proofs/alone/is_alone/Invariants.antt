@@ -1,7 +1,6 @@
 use Rattle.std.proofs.Common.{◌≡◌, ◌++◌, drop}
 use Rattle.ice_chip.specs.Views.{row_view, group_view}
-use Rattle.ice_bits.specs.Settings.{rows_on}
-use Rattle.ice_bits_rows.specs.Sound.{sets}
+use Rattle.ice_bits_rows.specs.Sound.{rows_on, sets}
 use Rattle.ice_bits_rows.specs.Lists.{views}
 use Rattle.ice_bits_rows.specs.Alone.{in_tile, listed_one}
 use Rattle.ice_bits_rows.proofs.alone.is_alone.Given as goal

@@ -1,5 +1,4 @@
-use Rattle.std.proofs.Common.{refl}
-use Rattle.ice_chip.specs.declared.function_names.TileFunction.TheVariants.{PinType, InputEnable, PullUp, ColumnBuffer}
+use Rattle.ice_chip_names.specs.declared.function_names.TileFunction.TheVariants.{PinType, InputEnable, PullUp, ColumnBuffer, RamMode}
 use Rattle.ice_emit_bits.proofs.Listing.{setting_added}
 use Rattle.ice_emit_bits.proofs.settings.set.Goals as goal
 
@@ -22,3 +21,8 @@ pub returns-in-ColumnBuffer : goal.returns-in-ColumnBuffer
 returns-in-ColumnBuffer c =
     setting_added c.args.chip.now c.args.bits.now c.set_one-in-ColumnBuffer.new.bits c.args.setting.now (ColumnBuffer c.in-ColumnBuffer.global) c.column_buffer_function.result c.from-number.result c.in-ColumnBuffer.is
     c.column_buffer_function.ensures c.from-number.ensures c.set_one-in-ColumnBuffer.ensures
+
+pub returns-in-RamMode : goal.returns-in-RamMode
+returns-in-RamMode c =
+    setting_added c.args.chip.now c.args.bits.now c.set_one-in-RamMode.new.bits c.args.setting.now (RamMode c.in-RamMode.place) c.ram_mode_function.result c.from-number.result c.in-RamMode.is
+    c.ram_mode_function.ensures c.from-number.ensures c.set_one-in-RamMode.ensures

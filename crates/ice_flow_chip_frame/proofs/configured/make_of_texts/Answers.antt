@@ -14,4 +14,4 @@ returns-in-Ok-clause-refused g c = λ chip_text stands. c.make_on_chip-made.ensu
 pub returns-in-Err-clause-refused : goal.returns-in-Err-clause-refused
 returns-in-Err-clause-refused g c = λ chip_text stands.
     let texts = chip_text ∷ c.args.texts.now in
-    chip_refused (g.M.ChipMaking.stands c.args.making.now texts) c.args.package_name.now texts c.in-Err.fault c.chip_refusal.result (c.in-Err.ensures.chip chip_text stands) c.chip_refusal.ensures
+    chip_refused (g.M.ChipMaking.rams c.args.making.now) (g.M.ChipMaking.stands c.args.making.now texts) c.args.package_name.now texts c.in-Err.fault c.chip_refusal.result (c.in-Err.ensures.chip chip_text stands) c.chip_refusal.ensures

@@ -21,7 +21,7 @@ returns-clause-cause g c =
     let made = c.make_of-made in
     let end = c.end_in_files in
     let outputs = files_view c.args.outputs.now in
-    let k = command_on_bits (with_chip c.args.chip.now (files_view c.args.files.now)) c.args.package_name.now (g.M.ChipMaking.stands c.args.making.now) (g.M.ChipMaking.gives c.args.making.now) (InFiles outputs) in
+    let k = command_on_bits (g.M.ChipMaking.rams c.args.making.now) (with_chip c.args.chip.now (files_view c.args.files.now)) c.args.package_name.now (g.M.ChipMaking.stands c.args.making.now) (g.M.ChipMaking.gives c.args.making.now) (InFiles outputs) in
     (end_is_in_files k outputs (D.seen c.args.desk.now) (D.seen made.new.desk) (D.seen end.new.desk) c.without_report.result end.result.cause made.ensures.same
     (subst (λ (r : Result Made Cause). IsMadeOf k (D.seen c.args.desk.now) (D.seen made.new.desk) r) (sym c.without_report.ensures.same) (made.ensures.made (InFiles outputs)))
     (none_reported k (D.seen c.args.desk.now) c.without_report.result refl c.without_report.ensures.none) end.ensures.end).is_true
@@ -32,7 +32,7 @@ returns-clause-kept g c =
     let made = c.make_of-made in
     let end = c.end_in_files in
     let outputs = files_view c.args.outputs.now in
-    let k = command_on_bits (with_chip c.args.chip.now (files_view c.args.files.now)) c.args.package_name.now (g.M.ChipMaking.stands c.args.making.now) (g.M.ChipMaking.gives c.args.making.now) (InFiles outputs) in
+    let k = command_on_bits (g.M.ChipMaking.rams c.args.making.now) (with_chip c.args.chip.now (files_view c.args.files.now)) c.args.package_name.now (g.M.ChipMaking.stands c.args.making.now) (g.M.ChipMaking.gives c.args.making.now) (InFiles outputs) in
     (end_is_in_files k outputs (D.seen c.args.desk.now) (D.seen made.new.desk) (D.seen end.new.desk) c.without_report.result end.result.cause made.ensures.same
     (subst (λ (r : Result Made Cause). IsMadeOf k (D.seen c.args.desk.now) (D.seen made.new.desk) r) (sym c.without_report.ensures.same) (made.ensures.made (InFiles outputs)))
     (none_reported k (D.seen c.args.desk.now) c.without_report.result refl c.without_report.ensures.none) end.ensures.end).kept
@@ -43,7 +43,7 @@ returns-clause-made g c =
     let made = c.make_of-made in
     let end = c.end_in_files in
     let outputs = files_view c.args.outputs.now in
-    let k = command_on_bits (with_chip c.args.chip.now (files_view c.args.files.now)) c.args.package_name.now (g.M.ChipMaking.stands c.args.making.now) (g.M.ChipMaking.gives c.args.making.now) (InFiles outputs) in
+    let k = command_on_bits (g.M.ChipMaking.rams c.args.making.now) (with_chip c.args.chip.now (files_view c.args.files.now)) c.args.package_name.now (g.M.ChipMaking.stands c.args.making.now) (g.M.ChipMaking.gives c.args.making.now) (InFiles outputs) in
     (end_is_in_files k outputs (D.seen c.args.desk.now) (D.seen made.new.desk) (D.seen end.new.desk) c.without_report.result end.result.cause made.ensures.same
     (subst (λ (r : Result Made Cause). IsMadeOf k (D.seen c.args.desk.now) (D.seen made.new.desk) r) (sym c.without_report.ensures.same) (made.ensures.made (InFiles outputs)))
     (none_reported k (D.seen c.args.desk.now) c.without_report.result refl c.without_report.ensures.none) end.ensures.end).made
@@ -54,7 +54,7 @@ returns-clause-tells g c =
     let made = c.make_of-made in
     let end = c.end_in_files in
     let outputs = files_view c.args.outputs.now in
-    let k = command_on_bits (with_chip c.args.chip.now (files_view c.args.files.now)) c.args.package_name.now (g.M.ChipMaking.stands c.args.making.now) (g.M.ChipMaking.gives c.args.making.now) (InFiles outputs) in
+    let k = command_on_bits (g.M.ChipMaking.rams c.args.making.now) (with_chip c.args.chip.now (files_view c.args.files.now)) c.args.package_name.now (g.M.ChipMaking.stands c.args.making.now) (g.M.ChipMaking.gives c.args.making.now) (InFiles outputs) in
     (end_is_in_files k outputs (D.seen c.args.desk.now) (D.seen made.new.desk) (D.seen end.new.desk) c.without_report.result end.result.cause made.ensures.same
     (subst (λ (r : Result Made Cause). IsMadeOf k (D.seen c.args.desk.now) (D.seen made.new.desk) r) (sym c.without_report.ensures.same) (made.ensures.made (InFiles outputs)))
     (none_reported k (D.seen c.args.desk.now) c.without_report.result refl c.without_report.ensures.none) end.ensures.end).tells

@@ -1,8 +1,9 @@
 use Rattle.std.proofs.Common.{arith}
+use Rattle.ice_chip.specs.Database.{same_tile}
 use Rattle.ice_sim.proofs.Turns.{places_more}
 use Rattle.ice_sim.proofs.configured.tile_places.Goals as goal
 
 pub loop-k-preserved : goal.loop-k-preserved
 loop-k-preserved c =
-    places_more _ _ c.loop-k.places.entries c.note_place.new.places.entries c.args.tiles.now c.loop-k.k c.in_ok-small.field-0 (omega arith) c.loop-k.invariant c.in_ok-note_place.ensures
+    places_more same_tile _ _ c.loop-k.places.entries c.note_place.new.places.entries c.args.tiles.now c.loop-k.k c.in_ok-small.field-0 (omega arith) c.loop-k.invariant c.in_ok-note_place.ensures
     c.in_ok-small.ensures

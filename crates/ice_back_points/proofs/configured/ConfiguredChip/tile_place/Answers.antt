@@ -1,8 +1,7 @@
 use Rattle.std.proofs.Common.{◌≡◌, ℕ, List, Option, sym, ap, ◌∙◌, subst}
 use Rattle.std.specs.Prelude.{IsSome}
 use Rattle.ice_base.specs.declared.number.TileAt.{TileAt}
-use Rattle.ice_decode.specs.Cells.{logic_tiles}
-use Rattle.ice_decode.specs.Meaning.{tile_place}
+use Rattle.ice_decode.specs.Cells.{logic_tiles, tile_place}
 use Rattle.ice_back_points.specs.ConfiguredChips.{ConfiguredData, IsConfigured}
 use Rattle.ice_back_points.proofs.ConfiguredFacts.{place_below}
 use Rattle.ice_back_points.proofs.Turned.{tile_found}

@@ -17,7 +17,7 @@ returns-in-Ok-play_chip-clause-given c = λ name chip_text is.
       levels = c.in-Ok.levels;
       is_configured = is;
       levels_are = rw (c.at.ensures, c.len.ensures.len) at c.in-Ok.ensures.gives;
-      is_text = c.in-Ok-play_chip.ensures;
+      is_text = rw c.as_slice.ensures.keys at c.in-Ok-play_chip.ensures;
     } in
     one_is (IsPlayed name texts) text c.made_text.result played c.made_text.ensures.text c.made_text.ensures.arrangement c.made_text.ensures.told
 

@@ -18,12 +18,12 @@ invariant_of-result c =
     let made = c.in_ok-plan.ensures in
     record {
       feeds = made.feeds;
-      run = run_begins c.args.chip.now (bits_of c.args.circuit.now.configuration) c.args.circuit.now.configuration.extras c.args.«package».now.pads.keys c.in_ok-plan.plan c.in_ok-memories.memories.items c.in_ok-plan.values.items made
+      run = run_begins c.args.chip.now (bits_of c.args.circuit.now.configuration) c.args.circuit.now.configuration.extras c.args.pads.now c.in_ok-plan.plan c.in_ok-memories.memories.items c.in_ok-plan.values.items made
           (memories_are a);
     }
 
 pub returns : goal.returns
 returns c =
     let a = (goal.at.returns c).In_ok-memories in
-    ap (λ (s : State). record { parts = c.args.chip.now; configuration = c.args.circuit.now.configuration; bonded = c.args.«package».now.pads.keys; state = s })
+    ap (λ (s : State). record { parts = c.args.chip.now; configuration = c.args.circuit.now.configuration; bonded = c.args.pads.now; state = s })
     (ap state_of (memories_are a) ∙ state_blank c.args.chip.now)

@@ -14,7 +14,7 @@ use Rattle.ice_sim.proofs.chip_run.ChipRun.step.Goals.{After-sweep}
 
 pub sweep-requires-clause-within : goal.sweep-requires-clause-within
 sweep-requires-clause-within c =
-    parts_within c.self.inside.chip.now (bits_of c.self.inside.circuit.now.configuration) c.self.inside.circuit.now.configuration.extras c.self.inside.«package».now.pads.keys c.self.invariant.feeds c.self.inside.plan
+    parts_within c.self.inside.chip.now (bits_of c.self.inside.circuit.now.configuration) c.self.inside.circuit.now.configuration.extras c.self.inside.pads.now c.self.invariant.feeds c.self.inside.plan
     c.self.invariant.run.planned (length c.args.levels.now) (length c.deref_mut.result.now) (length c.deref_mut-2.result.now)
     (c.requires.levels ∙ ap (λ (v : ChipRunData). length v.bonded) (sym c.self.view_is))
     (ap length c.deref_mut.ensures.value
@@ -25,7 +25,7 @@ pub sweep-requires-clause-out : goal.sweep-requires-clause-out
 sweep-requires-clause-out c =
     c.requires.out
     ∙ ap (λ (v : ChipRunData). length v.bonded) (sym c.self.view_is)
-    ∙ sym (taps_long c.self.inside.chip.now (bits_of c.self.inside.circuit.now.configuration) c.self.inside.circuit.now.configuration.extras c.self.inside.«package».now.pads.keys c.self.invariant.feeds c.self.inside.plan
+    ∙ sym (taps_long c.self.inside.chip.now (bits_of c.self.inside.circuit.now.configuration) c.self.inside.circuit.now.configuration.extras c.self.inside.pads.now c.self.invariant.feeds c.self.inside.plan
     c.self.invariant.run.planned)
 
 after_is : (c : After-sweep) → c.sweep.new.values ≡ swept c.self.inside.plan c.args.levels.now c.self.inside.memories.items c.self.inside.values.items
@@ -52,23 +52,23 @@ invariant_of-self c =
     record {
       feeds = c.self.invariant.feeds;
       run = rw (memories_new a, values_new a)
-          (run_after c.self.inside.chip.now (bits_of c.self.inside.circuit.now.configuration) c.self.inside.circuit.now.configuration.extras c.self.inside.«package».now.pads.keys c.self.invariant.feeds c.self.inside.plan
+          (run_after c.self.inside.chip.now (bits_of c.self.inside.circuit.now.configuration) c.self.inside.circuit.now.configuration.extras c.self.inside.pads.now c.self.invariant.feeds c.self.inside.plan
           c.self.invariant.run.planned c.args.levels.now c.self.inside.memories.items c.self.inside.values.items c.self.invariant.run c.sweep.new.memories c.sweep.new.values (after_is a) (next_is a));
     }
 
 pub returns-clause-run : goal.returns-clause-run
 returns-clause-run c =
     let a = (goal.at.returns-clause-run c).After-sweep in
-    ap (λ (s : State). record { parts = c.self.inside.chip.now; configuration = c.self.inside.circuit.now.configuration; bonded = c.self.inside.«package».now.pads.keys; state = s })
+    ap (λ (s : State). record { parts = c.self.inside.chip.now; configuration = c.self.inside.circuit.now.configuration; bonded = c.self.inside.pads.now; state = s })
     (ap state_of (memories_new a)
-    ∙ state_after_is c.self.inside.chip.now (bits_of c.self.inside.circuit.now.configuration) c.self.inside.circuit.now.configuration.extras c.self.inside.«package».now.pads.keys c.self.invariant.feeds c.self.inside.plan
+    ∙ state_after_is c.self.inside.chip.now (bits_of c.self.inside.circuit.now.configuration) c.self.inside.circuit.now.configuration.extras c.self.inside.pads.now c.self.invariant.feeds c.self.inside.plan
     c.self.invariant.run.planned c.args.levels.now c.self.inside.memories.items c.self.inside.values.items c.self.invariant.run c.sweep.new.memories c.sweep.new.values (after_is a) (next_is a))
     ∙ ap (λ (v : ChipRunData). with_state v (chip_step v.parts (bits_of v.configuration) v.configuration.extras v.bonded v.bonded v.state c.args.levels.now).0) c.self.view_is
 
 pub returns-clause-out : goal.returns-clause-out
 returns-clause-out c =
     let a = (goal.at.returns-clause-out c).After-sweep in
-    out_after c.self.inside.chip.now (bits_of c.self.inside.circuit.now.configuration) c.self.inside.circuit.now.configuration.extras c.self.inside.«package».now.pads.keys c.self.invariant.feeds c.self.inside.plan
+    out_after c.self.inside.chip.now (bits_of c.self.inside.circuit.now.configuration) c.self.inside.circuit.now.configuration.extras c.self.inside.pads.now c.self.invariant.feeds c.self.inside.plan
     c.self.invariant.run.planned c.args.levels.now c.self.inside.memories.items c.self.inside.values.items c.self.invariant.run c.sweep.new.memories c.sweep.new.values (after_is a) (next_is a)
     c.sweep.new.out c.sweep.ensures.out
     ∙ ap (λ (v : ChipRunData). (chip_step v.parts (bits_of v.configuration) v.configuration.extras v.bonded v.bonded v.state c.args.levels.now).1) c.self.view_is

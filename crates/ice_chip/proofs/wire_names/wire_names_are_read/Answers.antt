@@ -1,5 +1,0 @@
-use Rattle.ice_chip.proofs.WireNamesRead.{wire_names_read}
-use Rattle.ice_chip.proofs.wire_names.wire_names_are_read.Goals as goal
-
-pub returns : goal.returns
-returns c = wire_names_read

@@ -1,0 +1,5 @@
+pub mod Prefixes
+pub mod RamNamesRead
+pub mod WireNamesRead
+mod FunctionNamesRead
+mod FirstBytes

@@ -1,0 +1,3 @@
+mod EachBelow
+pub mod SiteTiles
+mod SitesAmong

@@ -1,0 +1,3 @@
+mod Pins
+mod StepsTold
+mod Words
