@@ -11,7 +11,7 @@ import subprocess
 import sys
 import tempfile
 
-PLACING = re.compile(r"ice_(anneal|anneal_ranks|anneal_board|anneal_nets|place_length|anneal_arrangement)::|ice_flow_build::laying::")
+PLACING = re.compile(r"ice_(anneal\w*|place_length)::|ice_flow_build::laying::")
 SEEDS = ("1", "2", "3")
 RATE = 4000
 

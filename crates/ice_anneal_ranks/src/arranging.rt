@@ -1,13 +1,8 @@
 //! The arrangement that is found.
 
-use crate::bundles::Bundles;
-use crate::classes::{Movers, movers_of};
 use crate::middles::Middles;
-use crate::nets::nets_of;
 use crate::search::Search;
-use crate::signals::Signals;
-use crate::state::State;
-use crate::units::Units;
+use ice_anneal_moves::{Bundles, Movers, Signals, State, Units, movers_of, nets_of};
 use ice_anneal_seats::{Floor, Grid, Seats};
 use ice_anneal_ways::{Pulls, Ways};
 use ice_base::{NoMemory, TileAt, to_u32};

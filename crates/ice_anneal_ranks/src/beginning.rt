@@ -1,8 +1,6 @@
 //! Where the search begins: cells in clusters, and units on sites, by the places where springs draw the cells.
 
-use crate::classes::{Mover, Movers};
-use crate::state::State;
-use crate::units::MoveUnit;
+use ice_anneal_moves::{MoveUnit, Mover, Movers, State};
 use ice_anneal_seats::Place;
 use ice_anneal_springs::{Mean, Point, wanted_places};
 use ice_base::NoMemory;

@@ -5,14 +5,8 @@
 
 mod arranging;
 mod beginning;
-mod bundles;
-mod classes;
 mod middles;
-mod nets;
 mod schedule;
 mod search;
-mod signals;
-mod state;
-mod units;
 
 pub use arranging::{Arranged, arrange, arrange_clusters};

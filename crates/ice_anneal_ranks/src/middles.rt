@@ -1,6 +1,6 @@
 //! The places amid the nets of cells and of clusters, noted now and then.
 
-use crate::state::State;
+use ice_anneal_moves::State;
 use ice_anneal_reach::{Ends, Middle};
 use ice_base::NoMemory;
 use std::alloc::Global;

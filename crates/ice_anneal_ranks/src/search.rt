@@ -1,11 +1,9 @@
 //! Tries at random, of which fewer and fewer that make the wires longer are kept.
 
 use crate::beginning::begin;
-use crate::classes::{Mover, Movers};
 use crate::middles::Middles;
 use crate::schedule::{Schedule, Step, TURNS};
-use crate::state::State;
-use crate::units::MoveUnit;
+use ice_anneal_moves::{MoveUnit, Mover, Movers, State};
 use ice_anneal_reach::Middle;
 use ice_anneal_seats::{below, spare};
 use ice_anneal_ways::Ways;

@@ -4,19 +4,20 @@ use Rattle.std.proofs.Math.ListN.{get_or-append}
 use Rattle.std.proofs.Math.Seq.{get_or-append_seam}
 use Rattle.std.proofs.lemmas.Bool.{or_parts, or_from}
 use Rattle.std.specs.List.{list_any}
-use Rattle.std.specs.Prelude.{◌&&◌, not, codes, bytes_eq}
+use Rattle.std.specs.Prelude.{◌&&◌, not, codes, bytes_eq, Option}
 use Rattle.ice_chip.specs.Database.{Parts, SwitchRow, SwitchGroup}
-use Rattle.ice_chip.specs.Lookups.{names_of}
+use Rattle.ice_chip.specs.Lookups.{kind_at, names_of}
 use Rattle.ice_chip.specs.Names.{cell_pin}
-use Rattle.ice_chip.specs.PinNames.{is_memory_name}
-use Rattle.ice_bits_rows.specs.WireNames.{has_closed_name, has_input_name, has_memory_name, has_output_name, is_closed_name, may_enter, may_leave}
+use Rattle.ice_chip.specs.declared.placed.PlacedName.{PlacedName}
+use Rattle.ice_chip.specs.declared.rows.TileKind.{TileKind}
+use Rattle.ice_bits_rows.specs.WireNames.{has_closed_name, has_input_name, has_strange_name, has_output_name, is_closed_in, is_strange_in, may_enter, may_leave}
 use Rattle.ice_bits_rows.specs.Sound.{is_alone}
 use Rattle.ice_bits_rows.specs.Uses.{is_source, use_at, uses_below, AreUses}
 use Rattle.ice_bits_rows.specs.Usable.{is_taken}
 use Rattle.ice_bits_rows.specs.declared.uses.WireUse.{WireUse}
 
 -- ---- one wire
--- by whether the wire has a memory's name, an input's, an output's and one that closes it
+-- by whether the wire has a strange name, an input's, an output's and one that closes it
 abbrev use_by : Bool → Bool → Bool → Bool → WireUse
 use_by m i o c = record { is_source = not m && (not i && not c); is_target = not o && not c }
 
@@ -32,15 +33,15 @@ none_by false false false = refl
 
 pub closed_use : (parts : Parts) (w : ℕ) → has_closed_name parts w ≡ true → record { is_source = false; is_target = false } ≡ use_at parts w
 closed_use parts w e =
-    sym (ap (use_by (has_memory_name parts w) (has_input_name parts w) (has_output_name parts w)) e
-    ∙ none_by (has_memory_name parts w) (has_input_name parts w) (has_output_name parts w))
+    sym (ap (use_by (has_strange_name parts w) (has_input_name parts w) (has_output_name parts w)) e
+    ∙ none_by (has_strange_name parts w) (has_input_name parts w) (has_output_name parts w))
 
--- names of memories close a wire
-no_memory : {X : Type 0} (name : X → List ℕ) (xs : List X) → list_any (λ x. is_closed_name (name x)) xs ≡ false → list_any (λ x. is_memory_name (name x)) xs ≡ false
-no_memory name [] e = refl
-no_memory name (x ∷ xs) e =
-    let parts = or_parts (is_closed_name (name x)) (list_any (λ y. is_closed_name (name y)) xs) e in
-    or_from (is_memory_name (name x)) (list_any (λ y. is_memory_name (name y)) xs) (or_parts (is_memory_name (name x)) (bytes_eq (cell_pin (name x)) (codes "lout")) parts.0).0 (no_memory name xs parts.1)
+-- strange names close a wire
+no_strange : (kind : PlacedName → Option TileKind) (xs : List PlacedName) → list_any (λ n. is_closed_in (kind n) n.name) xs ≡ false → list_any (λ n. is_strange_in (kind n) n.name) xs ≡ false
+no_strange kind [] e = refl
+no_strange kind (x ∷ xs) e =
+    let parts = or_parts (is_closed_in (kind x) x.name) (list_any (λ n. is_closed_in (kind n) n.name) xs) e in
+    or_from (is_strange_in (kind x) x.name) (list_any (λ n. is_strange_in (kind n) n.name) xs) (or_parts (is_strange_in (kind x) x.name) (bytes_eq (cell_pin x.name) (codes "lout")) parts.0).0 (no_strange kind xs parts.1)
 
 open_by : (i o : Bool) → record { is_source = not i; is_target = not o } ≡ use_by false i o false
 open_by true true = refl
@@ -50,12 +51,12 @@ open_by false false = refl
 
 pub open_use : (parts : Parts) (w : ℕ) (i o : Bool) → has_closed_name parts w ≡ false → i ≡ has_input_name parts w → o ≡ has_output_name parts w → record { is_source = not i; is_target = not o } ≡ use_at parts w
 open_use parts w i o e is_i is_o =
-    let memory : has_memory_name parts w ≡ false = no_memory (λ n. n.name) (names_of parts w) e in
+    let strange : has_strange_name parts w ≡ false = no_strange (λ (n : PlacedName). kind_at parts n.tile) (names_of parts w) e in
     open_by i o
     ∙ ap (λ x. use_by false x o false) is_i
     ∙ ap (λ x. use_by false (has_input_name parts w) x false) is_o
-    ∙ ap (λ x. use_by x (has_input_name parts w) (has_output_name parts w) false) (sym memory)
-    ∙ ap (use_by (has_memory_name parts w) (has_input_name parts w) (has_output_name parts w)) (sym e)
+    ∙ ap (λ x. use_by x (has_input_name parts w) (has_output_name parts w) false) (sym strange)
+    ∙ ap (use_by (has_strange_name parts w) (has_input_name parts w) (has_output_name parts w)) (sym e)
 
 -- ---- all wires
 pub no_use : (parts : Parts) → uses_below parts 0 ≡ []
@@ -107,4 +108,4 @@ table false a l = refl
 
 -- a row of an open group is taken where its source is such a wire and it is alone
 pub taken_by_source : (parts : Parts) (g : SwitchGroup) (n : ℕ) (r : SwitchRow) → (is_source parts r.source && is_alone parts.groups g n r) ≡ is_taken parts g n r
-taken_by_source parts g n r = table (not (has_memory_name parts r.source)) (is_alone parts.groups g n r) (may_leave parts r.source)
+taken_by_source parts g n r = table (not (has_strange_name parts r.source)) (is_alone parts.groups g n r) (may_leave parts r.source)

@@ -6,7 +6,7 @@ use Rattle.ice_base.specs.Places.{same_place}
 use Rattle.ice_bits.specs.Configuration.{Bits}
 use Rattle.ice_bits.specs.Settings.{row_on}
 use Rattle.ice_bits_rows.specs.Bundles.{bundle, is_private}
-use Rattle.ice_bits_rows.specs.WireNames.{has_memory_name}
+use Rattle.ice_bits_rows.specs.WireNames.{has_strange_name}
 
 -- the bits of the list that have the value 1
 abbrev pub value_at : List BitAt → List Bool → BitAt → Bool
@@ -32,6 +32,6 @@ is_one n (m ∷ k ∷ others) = false
 abbrev pub is_alone : List SwitchGroup → SwitchGroup → ℕ → SwitchRow → Bool
 is_alone groups g n r = is_one n (rows_on (sets g r) (bundle groups g.tile g.wire))
 
--- the row of number n of the group is sound: its bundle is private, its source is of no memory, and its values turn it on alone
+-- the row of number n of the group is sound: its bundle is private, its source has no name of a memory that is no pin, and its values turn it on alone
 abbrev pub is_sound : Parts → SwitchGroup → ℕ → SwitchRow → Bool
-is_sound parts g n r = is_private parts g.tile g.wire && not (has_memory_name parts r.source) && is_alone parts.groups g n r
+is_sound parts g n r = is_private parts g.tile g.wire && not (has_strange_name parts r.source) && is_alone parts.groups g n r

@@ -2,7 +2,7 @@
 use Rattle.std.specs.Prelude.{ℕ, Bool, not, ◌&&◌}
 use Rattle.ice_chip.specs.Database.{Parts, SwitchRow, SwitchGroup}
 use Rattle.ice_bits_rows.specs.Bundles.{is_private}
-use Rattle.ice_bits_rows.specs.WireNames.{has_memory_name, may_leave, may_enter}
+use Rattle.ice_bits_rows.specs.WireNames.{has_strange_name, may_leave, may_enter}
 use Rattle.ice_bits_rows.specs.Sound.{is_sound, is_alone}
 
 -- the row of number n of the group is usable: it is sound, and a route may leave its source and enter its target
@@ -16,4 +16,4 @@ is_open parts g = is_private parts g.tile g.wire && may_enter parts g.wire
 
 -- what a usable row of an open group meets
 abbrev pub is_taken : Parts → SwitchGroup → ℕ → SwitchRow → Bool
-is_taken parts g n r = (not (has_memory_name parts r.source) && is_alone parts.groups g n r) && may_leave parts r.source
+is_taken parts g n r = (not (has_strange_name parts r.source) && is_alone parts.groups g n r) && may_leave parts r.source

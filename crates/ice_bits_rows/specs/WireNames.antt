@@ -7,10 +7,6 @@ use Rattle.ice_chip.specs.Names.{cell_pin}
 use Rattle.ice_chip.specs.PinNames.{is_input_name, is_memory_name, is_output_name}
 use Rattle.ice_chip.specs.declared.rows.TileKind.{TileKind}
 
--- a name of a wire that no route uses: of a memory, or `lutff_I/lout`
-abbrev pub is_closed_name : List ℕ → Bool
-is_closed_name name = is_memory_name name || bytes_eq (cell_pin name) (codes "lout")
-
 -- a name by which a tile of the kind reads the wire
 abbrev pub is_input_in : Option TileKind → List ℕ → Bool
 is_input_in None name = false
@@ -21,12 +17,20 @@ abbrev pub is_output_in : Option TileKind → List ℕ → Bool
 is_output_in None name = false
 is_output_in (Some kind) name = is_output_name kind name
 
+-- a name of a memory that is no pin of a block RAM in a tile of the kind
+abbrev pub is_strange_in : Option TileKind → List ℕ → Bool
+is_strange_in kind name = is_memory_name name && not (is_input_in kind name || is_output_in kind name)
+
+-- a name of a wire that no route uses: of a memory, where it is no pin, or `lutff_I/lout`
+abbrev pub is_closed_in : Option TileKind → List ℕ → Bool
+is_closed_in kind name = is_strange_in kind name || bytes_eq (cell_pin name) (codes "lout")
+
 -- ---- names of a wire
-abbrev pub has_memory_name : Parts → ℕ → Bool
-has_memory_name parts wire = list_any (λ n. is_memory_name n.name) (names_of parts wire)
+abbrev pub has_strange_name : Parts → ℕ → Bool
+has_strange_name parts wire = list_any (λ n. is_strange_in (kind_at parts n.tile) n.name) (names_of parts wire)
 
 abbrev pub has_closed_name : Parts → ℕ → Bool
-has_closed_name parts wire = list_any (λ n. is_closed_name n.name) (names_of parts wire)
+has_closed_name parts wire = list_any (λ n. is_closed_in (kind_at parts n.tile) n.name) (names_of parts wire)
 
 abbrev pub has_input_name : Parts → ℕ → Bool
 has_input_name parts wire = list_any (λ n. is_input_in (kind_at parts n.tile) n.name) (names_of parts wire)

@@ -1,7 +1,7 @@
 //! Names of wires that routes may not leave or enter.
 ghost use Rattle.std.specs.Prelude.{◌≡◌, ◌<◌, ◌||◌, bytes_eq, codes};
 ghost use Rattle.ice_chip.specs.Lookups.{kind_at};
-ghost use Rattle.ice_bits_rows.specs.WireNames.{is_closed_name, is_input_in, is_output_in, has_memory_name, has_closed_name, has_input_name, has_output_name, may_leave, may_enter};
+ghost use Rattle.ice_bits_rows.specs.WireNames.{is_input_in, is_output_in, is_strange_in, is_closed_in, has_strange_name, has_closed_name, has_input_name, has_output_name, may_leave, may_enter};
 
 use ice_base::{TileAt, WireNo};
 use ice_chip::{
@@ -16,13 +16,6 @@ fn is_look_up(pin: &[u8]) -> bool
         [b'l', b'o', b'u', b't'] => true,
         _ => false,
     }
-}
-
-// Whether this is the name of a wire that no route uses.
-fn is_closed_name(name: &[u8]) -> bool
-    ensures { result ≡ is_closed_name name.now }
-{
-    is_memory_name(name) || is_look_up(cell_pin(name))
 }
 
 // Whether this is an input name of a tile of the kind.
@@ -45,13 +38,35 @@ fn is_output_in(kind: Option<TileKind>, name: &[u8]) -> bool
     }
 }
 
-/// Whether the wire has a name of a memory's wire.
-pub fn has_memory_name(chip: &Chip, wire: WireNo) -> bool
+// Whether this is an input or an output name of a tile of the kind.
+fn is_pin_in(kind: Option<TileKind>, name: &[u8]) -> bool
+    ensures { result ≡ (is_input_in kind name.now || is_output_in kind name.now) }
+{
+    is_input_in(kind, name) || is_output_in(kind, name)
+}
+
+// Whether this is a name of a memory that is no pin of a block RAM in the tile at the place. The tile is looked up for names of
+// memories alone.
+fn is_strange_at(chip: &Chip, tile: TileAt, name: &[u8]) -> bool
+    ensures { result ≡ is_strange_in (kind_at chip.now tile) name.now }
+{
+    is_memory_name(name) && !is_pin_in(chip.kind_at(tile), name)
+}
+
+// Whether this is the name, in the tile at the place, of a wire that no route uses.
+fn is_closed_at(chip: &Chip, tile: TileAt, name: &[u8]) -> bool
+    ensures { result ≡ is_closed_in (kind_at chip.now tile) name.now }
+{
+    is_strange_at(chip, tile, name) || is_look_up(cell_pin(name))
+}
+
+/// Whether the wire has a name of a memory that is no pin of a block RAM.
+pub fn has_strange_name(chip: &Chip, wire: WireNo) -> bool
     requires { wire.0 < chip.now.wires }
-    ensures { result ≡ has_memory_name chip.now wire.0 }
+    ensures { result ≡ has_strange_name chip.now wire.0 }
 {
     for placed in chip.names(wire) {
-        if is_memory_name(placed.name.as_bytes()) {
+        if is_strange_at(chip, placed.tile, placed.name.as_bytes()) {
             return true;
         }
     }
@@ -64,7 +79,7 @@ pub fn has_closed_name(chip: &Chip, wire: WireNo) -> bool
     ensures { result ≡ has_closed_name chip.now wire.0 }
 {
     for placed in chip.names(wire) {
-        if is_closed_name(placed.name.as_bytes()) {
+        if is_closed_at(chip, placed.tile, placed.name.as_bytes()) {
             return true;
         }
     }

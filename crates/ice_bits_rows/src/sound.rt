@@ -9,7 +9,7 @@ ghost use Rattle.ice_bits_rows.specs.Uses.{AreUses};
 use crate::alone;
 use crate::bundle::is_private;
 use crate::index::Index;
-use crate::names::{has_memory_name, may_enter, may_leave};
+use crate::names::{has_strange_name, may_enter, may_leave};
 use crate::uses::{WireUse, is_source, is_target};
 use ice_chip::{Group, Row};
 
@@ -34,7 +34,7 @@ fn is_alone_in(index: &Index, group: &Group, plain: bool, number: u32, row: &Row
 }
 
 /// Whether the row of a group is sound: no other bundle of its tile and no foreign function has a bit of its bundle, its
-/// values turn it on alone there, and its source is no memory's wire. The number is that of the row.
+/// values turn it on alone there, and its source has no name of a memory that is no pin. The number is that of the row.
 pub fn is_sound(index: &Index, group: &Group, number: u32, row: &Row) -> bool
     requires wire { group.now.wire.0 < index.now.chip.now.wires }
     requires source { row.now.source.0 < index.now.chip.now.wires }
@@ -42,7 +42,7 @@ pub fn is_sound(index: &Index, group: &Group, number: u32, row: &Row) -> bool
         ≡ is_sound index.now.chip.now (group_view group.now) number (row_view row.now) }
 {
     is_private(index, group.tile, group.wire)
-        && !has_memory_name(index.chip, row.source)
+        && !has_strange_name(index.chip, row.source)
         && is_alone(index, group, number, row)
 }
 
@@ -56,9 +56,9 @@ pub fn is_open(index: &Index, uses: &[WireUse], group: &Group) -> bool
     is_private(index, group.tile, group.wire) && is_target(index.chip, uses, group.wire)
 }
 
-/// Whether the row of an open group is usable: its values turn it on alone in its bundle, its source is no memory's wire,
-/// and a route may leave that, by what was noted of all wires. The number is that of the row. The group may be known to
-/// be plain, so that each of its rows is alone.
+/// Whether the row of an open group is usable: its values turn it on alone in its bundle, its source has no name of a memory
+/// that is no pin, and a route may leave that, by what was noted of all wires. The number is that of the row. The group may be
+/// known to be plain, so that each of its rows is alone.
 #[tactic(auto, using(crate::proofs::WireUses::taken_by_source))]
 pub fn is_taken(
     index: &Index,

@@ -11,13 +11,13 @@ use std::alloc::Global;
 /// What usable rows may do with a wire.
 #[derive(Clone, Copy)]
 pub struct WireUse {
-    /// Whether one may come from the wire: it is no memory's, and a route may leave it.
+    /// Whether one may come from the wire: it has no name of a memory that is no pin, and a route may leave it.
     pub is_source: bool,
     /// Whether one may lead into the wire: a route may enter it.
     pub is_target: bool,
 }
 
-// What usable rows may do with the wire. The wires of memories are closed.
+// What usable rows may do with the wire. Names of memories that are no pins close it.
 fn use_of(chip: &Chip, wire: WireNo) -> WireUse
     requires { wire.0 < chip.now.wires }
     ensures { result ≡ use_at chip.now wire.0 }

@@ -8,7 +8,12 @@ mod Values
 mod Steps
 mod Sound
 mod Written
-mod NoRams
+mod GrownNames
+mod TextMoves
 mod TextSteps
 mod TextParams
+mod TextRams
+mod TextLines
+mod ClosedLines
+mod ClosedTexts
 pub mod TextNetlists

@@ -1,129 +1,95 @@
--- What the reader takes of a netlist text is the netlist that the text says, line by line.
-use Rattle.std.proofs.Common.{◌≡◌, ◌∙◌, ℕ, ◌+◌, Bool, true, false, ◌||◌, List, [], ◌∷◌, ◌++◌, append-nil, length, fold, nat_lt, Option, Some, None, option_map, Result, Ok, Err, IfOk, if◌then◌else◌, codes, bytes_eq, refl, ap, sym, subst}
+-- A text that says a closed netlist without RAMs says the netlist alone.
+use Rattle.std.proofs.Common.{◌≡◌, ◌∙◌, ℕ, Bool, true, false, List, [], ◌∷◌, map, replicate, reverse, drop, Option, Some, None, option_map, IfSome, if◌then◌else◌, codes, bytes_eq, refl, ap, sym}
 use Rattle.std.specs.Option.{option_and_then}
-use Rattle.ice_base.specs.Text.{lines, numbered, words, begins_with}
-use Rattle.ice_net.specs.declared.cell.Cell.{Cell}
-use Rattle.ice_net.specs.declared.port.Way.{Way}
-use Rattle.ice_net.specs.declared.port.Way.TheVariants.{Input, Output}
+use Rattle.std.proofs.lemmas.List.{reverse-reverse}
+use Rattle.ice_base.specs.Text.{lines, numbered}
 use Rattle.ice_net.specs.NetlistData.{NetlistData, empty_netlist}
-use Rattle.ice_blif.specs.declared.fault.BlifFault.{BlifFault}
-use Rattle.ice_blif.specs.declared.fault.BlifFault.TheVariants.{NoModel, SecondModel, UnknownDirective, TooMany}
-use Rattle.ice_blif.specs.State.{LastCell, Nothing, finished}
-use Rattle.ice_blif.specs.Reading.{NetReading}
-use Rattle.ice_blif.specs.JoinedLines.{FilledLine, joined, filled, last_number, goes_on_by, plain_by, with_next, later_joined}
-use Rattle.ice_blif.specs.Continued.{continued}
-use Rattle.ice_blif.specs.Cells.{◌>>=◌, param_says, count_of}
-use Rattle.ice_blif.specs.Grammar.{ports_say, without_rows, gate_says, names_say, row_line, row_or_fault, port_directive_says, param_directive_says, directive_says, within_limits, line_says, after_end, ended, model_says, empty_reader, lines_say, netlist_of}
-use Rattle.ice_blif.specs.Registers.{with_apart, all_apart, without_cells, taken_apart}
-use Rattle.ice_blif.specs.FewSignals.{few_signals, apart_says, taken_apart_says}
-use Rattle.ice_blif.proofs.Kept.{bind_keeps, either, any_ok, weaker}
-use Rattle.ice_base.proofs.Keys.{bytes_same}
-use Rattle.ice_ram_read.specs.RamTexts.{RamData, is_gate, listed, before_line, after_line, rams_said, rams_of}
-use Rattle.ice_ram_read.proofs.Unclosed.{alone_exactly}
-use Rattle.ice_blif_laws.specs.NetlistText.{join, joined_lines, NetSoFar, port_joins, gate_directive, signal_joins, cover_joins, row_joins_cover, param_joins, directive_joins, blif_line_joins, model_lines, blif_lines_join, netlist_in}
+use Rattle.ice_blif.specs.State.{LastCell, Nothing, Gate, Memory, Rows}
+use Rattle.ice_ram_words.specs.declared.kind.Edges.{Edges}
+use Rattle.ice_ram_words.specs.Words.{place}
+use Rattle.ice_ram_read.specs.RamData.{RamData, new_ram}
+use Rattle.ice_ram_read.specs.ClosedNetlists.{ClosedNetlistData, ram_of, without_rams}
+use Rattle.ice_blif_laws.specs.NetlistText.{NetSoFar, Wiring, joined_lines, connections_join, blif_line_joins, model_lines, blif_lines_join, whole, netlist_in}
+use Rattle.ice_blif_laws.specs.ClosedText.{ClosedSoFar, ram_edges, ram_joins, ram_param, closed_joins, closed_line_joins, with_rams, closed_whole}
 use Rattle.ice_blif_laws.specs.NetlistTextLaw.{NetlistTextsSayNetlists}
-use Rattle.ice_blif_laws.proofs.NoRams.{OpensNone, rest_nil, opens_none}
-use Rattle.ice_blif_laws.proofs.TextParams.{param_said}
-use Rattle.ice_blif_laws.proofs.TextSteps.{seen, Alike, chosen, chosen_by, ports_said, gate_said, names_said, row_said}
+use Rattle.ice_blif_laws.proofs.TextMoves.{some_then, some_mapped, some_any, some_weaker}
+use Rattle.ice_blif_laws.proofs.ClosedTexts.{text_closed}
 
--- ---- lines
-ports_directive_said : (line : ℕ) (way : Way) (r : NetReading) (names : List (List ℕ)) → Alike (Some (fold (port_joins way) r.netlist names, r.last)) (port_directive_says line way r names)
-ports_directive_said line way r names =
-    bind_keeps (λ (m : NetlistData). fold (port_joins way) r.netlist names ≡ m) (λ (s : NetReading). Some (fold (port_joins way) r.netlist names, r.last) ≡ Some (seen s)) (ports_say line way r.netlist names) (λ n. Ok (without_rows n r.last))
-    (ports_said line way r.netlist names) (λ n one. ap (λ (x : NetlistData). Some (x, r.last)) one)
+-- where no RAM is said behind a step, none was before it, and the step is that of a text without RAMs
+abbrev Alone : List RamData → Option NetSoFar → ClosedSoFar → Type 0
+Alone rams plain s = s.1 ≡ [] → (rams ≡ []) × (plain ≡ Some s.0)
 
-param_directive_said : (line : ℕ) (r : NetReading) (ws : List (List ℕ)) → Alike (Some (r.netlist, param_joins r.last ws)) (param_directive_says line r ws)
-param_directive_said line r ws =
-    bind_keeps (λ (k : LastCell). param_joins r.last ws ≡ k) (λ (s : NetReading). Some (r.netlist, param_joins r.last ws) ≡ Some (seen s)) (param_says line r.last ws) (λ last. Ok (without_rows r.netlist last))
-    (param_said line r.last ws) (λ last one. ap (λ (x : LastCell). Some (r.netlist, x)) one)
+no_first : {A : Type 0} (x : A) (xs : List A) → x ∷ xs ≡ [] → ⊥
+no_first x xs e = cc
 
-directive_said : (line : ℕ) (r : NetReading) (first : List ℕ) (others : List (List ℕ)) → (is_gate first ≡ true → OpensNone others) → Alike (directive_joins line first others (seen r)) (directive_says line r first others)
-directive_said line r first others none =
-    chosen_by (bytes_eq first (codes ".gate") || bytes_eq first (codes ".subckt")) (gate_directive line others (seen r)) _ (gate_says line r others) _ (λ gate. gate_said line r others (none gate))
-    (chosen (bytes_eq first (codes ".names")) (Some (cover_joins line r.last (fold signal_joins (r.netlist, []) others))) _ (names_say line r others) _ (names_said line r others)
-    (chosen (bytes_eq first (codes ".param")) (Some (r.netlist, param_joins r.last others)) _ (param_directive_says line r others) _ (param_directive_said line r others)
-    (chosen (bytes_eq first (codes ".attr") || bytes_eq first (codes ".cname")) (Some (seen r)) _ (Ok (without_rows r.netlist r.last)) _ refl
-    (chosen (bytes_eq first (codes ".inputs")) (Some (fold (port_joins Input) r.netlist others, r.last)) _ (port_directive_says line Input r others) _ (ports_directive_said line Input r others)
-    (chosen (bytes_eq first (codes ".outputs")) (Some (fold (port_joins Output) r.netlist others, r.last)) None (port_directive_says line Output r others) _ (ports_directive_said line Output r others)
-    (either (λ (s : NetReading). None ≡ Some (seen s)) (bytes_eq first (codes ".model")) (Err (SecondModel line)) (Err (UnknownDirective line)) tt tt))))))
+-- a parameter leaves no fewer RAMs
+param_alone : (last : LastCell) (words : List (List ℕ)) (rams : List RamData) → ram_param last words rams ≡ [] → rams ≡ []
+param_alone last words [] e = refl
+param_alone Memory words (ram ∷ rams) e = absurd (cc)
+param_alone Nothing words (ram ∷ rams) e = e
+param_alone (Gate cell) words (ram ∷ rams) e = e
+param_alone (Rows cover) words (ram ∷ rams) e = e
 
-within_said : (o : Option NetSoFar) (line : ℕ) (s : NetReading) → o ≡ Some (seen s) → Alike o (within_limits line s)
-within_said o line s is =
-    either (λ (t : NetReading). o ≡ Some (seen t)) (nat_lt 65534 (length s.netlist.names)) (Err (TooMany line 65534)) _ tt
-    (either (λ (t : NetReading). o ≡ Some (seen t)) (nat_lt 1048576 (length s.netlist.cells + count_of s.last)) (Err (TooMany line 1048576)) (Ok s) tt is)
+line_alone : (line : ℕ) (first : List ℕ) (others : List (List ℕ)) (r : ClosedSoFar) → IfSome (closed_line_joins line first others r) (Alone r.1 (blif_line_joins line first others r.0))
+line_alone line first others r = by (ram_edges first others)
+  where
+    rams_alone : (b : Bool) → (if b then ram_param r.0.1 others r.1 else r.1) ≡ [] → r.1 ≡ []
+    rams_alone true e = param_alone r.0.1 others r.1 e
+    rams_alone false e = e
 
-line_said : (l : FilledLine) (r : NetReading) → (is_gate l.first ≡ true → OpensNone l.others) → Alike (blif_line_joins l.number l.first l.others (seen r)) (line_says within_limits l r)
-line_said l r none =
-    bind_keeps (λ (s : NetReading). blif_line_joins l.number l.first l.others (seen r) ≡ Some (seen s)) (λ (s : NetReading). blif_line_joins l.number l.first l.others (seen r) ≡ Some (seen s))
-    (if begins_with 46 l.first then directive_says l.number r l.first l.others else row_or_fault l.number r l.first l.others) (within_limits l.number)
-    (chosen (begins_with 46 l.first) (directive_joins l.number l.first l.others (seen r)) (row_joins_cover r.last (l.first ∷ l.others) r.netlist) (directive_says l.number r l.first l.others) (row_or_fault l.number r l.first l.others)
-    (directive_said l.number r l.first l.others none)
-    (either (λ (s : NetReading). row_joins_cover r.last (l.first ∷ l.others) r.netlist ≡ Some (seen s)) r.rows (row_line l.number r r.last l.first l.others) (Err (UnknownDirective l.number)) (row_said l.number r r.last l.first l.others) tt))
-    (λ s is. within_said (blif_line_joins l.number l.first l.others (seen r)) l.number s is)
+    plain : (o : Option NetSoFar) → IfSome (option_map (λ n. (n, if bytes_eq first (codes ".param") then ram_param r.0.1 others r.1 else r.1)) o) (Alone r.1 o)
+    plain None = tt
+    plain (Some n) = λ none. (rams_alone (bytes_eq first (codes ".param")) none, refl)
+
+    by : (o : Option Edges) → IfSome (closed_joins o line first others r) (Alone r.1 (blif_line_joins line first others r.0))
+    by None = plain (blif_line_joins line first others r.0)
+    by (Some edges) =
+        some_mapped (Alone r.1 (blif_line_joins line first others r.0)) (λ (c : Wiring). Unit {0}) (connections_join 60 (place edges) (drop 1 others) (r.0.0, replicate 76 None)) (ram_joins line edges r)
+        (some_any (connections_join 60 (place edges) (drop 1 others) (r.0.0, replicate 76 None))) (λ c u none. absurd (no_first (new_ram line edges c.1) r.1 none))
+
+model_alone : (js : List (ℕ × List (List ℕ))) (r : ClosedSoFar) → IfSome (model_lines closed_line_joins js r) (Alone r.1 (model_lines blif_line_joins js r.0))
+model_alone [] r = tt
+model_alone ((line, []) ∷ js) r = model_alone js r
+model_alone ((line, first ∷ others) ∷ js) r = by (bytes_eq first (codes ".end")) (λ s. model_alone js s)
+  where
+    by : (b : Bool) → ((s : ClosedSoFar) → IfSome (model_lines closed_line_joins js s) (Alone s.1 (model_lines blif_line_joins js s.0))) → IfSome (if b then Some r else option_and_then (model_lines closed_line_joins js) (closed_line_joins line first others r))
+        (Alone r.1 (if b then Some r.0 else option_and_then (model_lines blif_line_joins js) (blif_line_joins line first others r.0)))
+    by true later = λ none. (none, refl)
+    by false later =
+        some_then (Alone r.1 (option_and_then (model_lines blif_line_joins js) (blif_line_joins line first others r.0))) (Alone r.1 (blif_line_joins line first others r.0)) (closed_line_joins line first others r) (model_lines closed_line_joins js)
+        (line_alone line first others r) (λ s one. some_weaker (Alone s.1 (model_lines blif_line_joins js s.0)) (Alone r.1 (option_and_then (model_lines blif_line_joins js) (blif_line_joins line first others r.0))) (model_lines closed_line_joins js s)
+        (λ k behind none. let rest = behind none in let step = one rest.0 in (step.0, ap (option_and_then (model_lines blif_line_joins js)) step.1 ∙ rest.1)) (later s))
+
+lines_alone : (js : List (ℕ × List (List ℕ))) → IfSome (blif_lines_join closed_line_joins ((empty_netlist, Nothing), []) js) (Alone [] (blif_lines_join blif_line_joins (empty_netlist, Nothing) js))
+lines_alone [] = tt
+lines_alone ((line, []) ∷ js) = lines_alone js
+lines_alone ((line, first ∷ others) ∷ js) = by (bytes_eq first (codes ".model"))
+  where
+    by : (b : Bool) → IfSome (if b then model_lines closed_line_joins js ((empty_netlist, Nothing), []) else None) (Alone [] (if b then model_lines blif_line_joins js (empty_netlist, Nothing) else None))
+    by true = model_alone js ((empty_netlist, Nothing), [])
+    by false = tt
 
 -- ---- the text
-abbrev filled_line : ℕ → List ℕ → List (List ℕ) → FilledLine
-filled_line line first others = record { number = line; first = first; others = others }
+none_mapped : (rams : List RamData) → map ram_of rams ≡ [] → rams ≡ []
+none_mapped [] e = refl
+none_mapped (ram ∷ rams) e = absurd (no_first (ram_of ram) (map ram_of rams) e)
 
-model_said : (last : ℕ) (js : List (ℕ × List (List ℕ))) (r : NetReading) (m : NetlistData) (before : Option RamData) → rams_said m before (filled js) ≡ []
-    → IfOk (model_says within_limits last r (filled js)) (λ (n : NetlistData). model_lines js (seen r) ≡ Some n)
-model_said last [] r m before none = tt
-model_said last ((line, []) ∷ js) r m before none = model_said last js r m before none
-model_said last ((line, first ∷ others) ∷ js) r m before none = by (bytes_eq first (codes ".end")) none (λ s alone. model_said last js s m (after_line m before (filled_line line first others)) alone)
-  where
-    by : (b : Bool) → (if b then listed before else before_line before first ++ rams_said m (after_line m before (filled_line line first others)) (filled js)) ≡ []
-        → ((s : NetReading) → rams_said m (after_line m before (filled_line line first others)) (filled js) ≡ [] → IfOk (model_says within_limits last s (filled js)) (λ (n : NetlistData). model_lines js (seen s) ≡ Some n))
-        → IfOk (if b then ended r (filled js) else line_says within_limits (filled_line line first others) r >>= (λ s. model_says within_limits last s (filled js)))
-        (λ (n : NetlistData). (if b then Some (finished r.netlist r.last) else option_and_then (model_lines js) (blif_line_joins line first others (seen r))) ≡ Some n)
-    by true alone rest = bind_keeps (λ (u : Unit {0}). Unit {0}) (λ (n : NetlistData). Some (finished r.netlist r.last) ≡ Some n) (after_end (filled js)) (λ u. Ok (finished r.netlist r.last)) (any_ok (after_end (filled js))) (λ u kept. refl)
-    by false alone rest =
-        let behind : rams_said m (after_line m before (filled_line line first others)) (filled js) ≡ [] = rest_nil (before_line before first) (rams_said m (after_line m before (filled_line line first others)) (filled js)) alone in
-        bind_keeps (λ (s : NetReading). blif_line_joins line first others (seen r) ≡ Some (seen s)) (λ (n : NetlistData). option_and_then (model_lines js) (blif_line_joins line first others (seen r)) ≡ Some n)
-        (line_says within_limits (filled_line line first others) r) (λ s. model_says within_limits last s (filled js)) (line_said (filled_line line first others) r (opens_none m before (filled_line line first others) (filled js) behind))
-        (λ s one. weaker (λ (n : NetlistData). model_lines js (seen s) ≡ Some n) (λ (n : NetlistData). option_and_then (model_lines js) (blif_line_joins line first others (seen r)) ≡ Some n) (model_says within_limits last s (filled js))
-        (λ n later. ap (option_and_then (model_lines js)) one ∙ later) (rest s behind))
+none_reversed : (rams : List RamData) → reverse rams ≡ [] → rams ≡ []
+none_reversed rams e = sym (reverse-reverse rams) ∙ ap reverse e
 
-lines_said : (last : ℕ) (js : List (ℕ × List (List ℕ))) (m : NetlistData) → rams_said m None (filled js) ≡ [] → IfOk (lines_say within_limits last (filled js)) (λ (n : NetlistData). blif_lines_join js ≡ Some n)
-lines_said last [] m none = tt
-lines_said last ((line, []) ∷ js) m none = lines_said last js m none
-lines_said last ((line, first ∷ others) ∷ js) m none = by (bytes_eq first (codes ".model")) refl
-  where
-    behind : (b : Bool) → b ≡ false → (if b then [] else before_line None first ++ rams_said m (after_line m None (filled_line line first others)) (filled js)) ≡ [] → rams_said m (after_line m None (filled_line line first others)) (filled js) ≡ []
-    behind true go_on alone = absurd (cc)
-    behind false go_on alone = rest_nil (before_line None first) (rams_said m (after_line m None (filled_line line first others)) (filled js)) alone
+same_closed : (a b : ClosedNetlistData) → (let said : Option ClosedNetlistData = Some a in said) ≡ Some b → a ≡ b
+same_closed a b e = cc
 
-    by : (b : Bool) → bytes_eq first (codes ".model") ≡ b → IfOk (if b then model_says within_limits last empty_reader (filled js) else Err (NoModel line)) (λ (n : NetlistData). (if b then model_lines js (empty_netlist, Nothing) else None) ≡ Some n)
-    by true e =
-        let go_on : bytes_eq first (codes ".end") ≡ false = ap (λ (w : List ℕ). bytes_eq w (codes ".end")) (bytes_same first (codes ".model") e) in
-        model_said last js empty_reader m (after_line m None (filled_line line first others)) (behind (bytes_eq first (codes ".end")) go_on none)
-    by false e = tt
-
-apart_said : (n : NetlistData) (cells : List Cell) → IfOk (apart_says n cells) (λ (m : NetlistData). all_apart n cells ≡ m)
-apart_said n [] = refl
-apart_said n (cell ∷ cells) =
-    bind_keeps (λ (m : NetlistData). with_apart n cell ≡ m) (λ (k : NetlistData). all_apart n (cell ∷ cells) ≡ k) (few_signals cell.line (with_apart n cell)) (λ m. apart_says m cells)
-    (either (λ (m : NetlistData). with_apart n cell ≡ m) (nat_lt 65534 (length (with_apart n cell).names)) (Err (TooMany cell.line 65534)) (Ok (with_apart n cell)) tt refl)
-    (λ m one. weaker (λ (k : NetlistData). all_apart m cells ≡ k) (λ (k : NetlistData). all_apart n (cell ∷ cells) ≡ k) (apart_says m cells) (λ k later. ap (λ (x : NetlistData). all_apart x cells) one ∙ later) (apart_said m cells))
-
-joined_same : (ls : List (ℕ × List ℕ)) → joined_lines ls ≡ joined ls
-joined_same [] = refl
-joined_same (l ∷ ls) = ap (join l.0 l.1 (continued l.1)) (joined_same ls) ∙ by (continued l.1) (joined ls)
-  where
-    by : (o : Option (List ℕ)) (later : List (ℕ × List (List ℕ))) → join l.0 l.1 o later ≡ (l.0, with_next (goes_on_by o) (plain_by l.1 o) later) ∷ later_joined (goes_on_by o) later
-    by None later = refl
-    by (Some front) [] = ap (λ (ws : List (List ℕ)). (l.0, ws) ∷ []) (sym (append-nil (words front)))
-    by (Some front) (next ∷ later) = refl
-
-text_said : (text : List ℕ) (m : NetlistData) → rams_of m text ≡ [] → IfOk (netlist_of text) (λ (n : NetlistData). netlist_in text ≡ Some n)
-text_said text m none =
-    bind_keeps (λ (raw : NetlistData). blif_lines_join (joined (numbered 1 (lines text))) ≡ Some raw) (λ (n : NetlistData). netlist_in text ≡ Some n)
-    (lines_say within_limits (last_number 0 (numbered 1 (lines text))) (filled (joined (numbered 1 (lines text))))) taken_apart_says
-    (lines_said (last_number 0 (numbered 1 (lines text))) (joined (numbered 1 (lines text))) m none)
-    (λ raw one. weaker (λ (n : NetlistData). taken_apart raw ≡ n) (λ (n : NetlistData). netlist_in text ≡ Some n) (taken_apart_says raw)
-    (λ n is. ap (λ (js : List (ℕ × List (List ℕ))). option_map taken_apart (blif_lines_join js)) (joined_same (numbered 1 (lines text))) ∙ ap (option_map taken_apart) one ∙ ap (λ (x : NetlistData). Some x) is)
-    (apart_said (without_cells raw) raw.cells))
+abbrev lines_of : List ℕ → List (ℕ × List (List ℕ))
+lines_of text = joined_lines (numbered 1 (lines text))
 
 pub text_netlists : NetlistTextsSayNetlists
-text_netlists text n e =
-    let alone = (alone_exactly text n).0 e in
-    subst (λ (said : Result NetlistData BlifFault). IfOk said (λ (m : NetlistData). netlist_in text ≡ Some m)) alone.0 (text_said text n alone.1)
+text_netlists text n e = by (blif_lines_join closed_line_joins ((empty_netlist, Nothing), []) (lines_of text)) (lines_alone (lines_of text)) (text_closed text (without_rams n) e)
+  where
+    by : (o : Option ClosedSoFar) → IfSome o (Alone [] (blif_lines_join blif_line_joins (empty_netlist, Nothing) (lines_of text))) → option_map closed_whole o ≡ Some (without_rams n) → netlist_in text ≡ Some n
+    by None alone is = absurd (cc)
+    by (Some s) alone is =
+        let same : closed_whole s ≡ without_rams n = same_closed (closed_whole s) (without_rams n) is in
+        let none : s.1 ≡ [] = none_reversed s.1 (none_mapped (reverse s.1) (ap (λ (c : ClosedNetlistData). c.rams) same)) in
+        let netlist : whole s.0 ≡ n = ap (λ (rams : List RamData). (with_rams (whole s.0) (reverse rams)).netlist) (sym none) ∙ ap (λ (c : ClosedNetlistData). c.netlist) same in
+        ap (option_map whole) (alone none).1 ∙ ap (λ (m : NetlistData). Some m) netlist

@@ -16,12 +16,16 @@ use Rattle.ice_blif.specs.Reading.{NetReading, Connections}
 use Rattle.ice_blif.specs.Cells.{row_of_level, cover_row_of, cover_row_says, is_row, agrees}
 use Rattle.ice_blif.specs.Covers.{level_of_word}
 use Rattle.ice_blif.specs.Grammar.{was_named, with_named_port, port_says, ports_say, no_wiring, is_missing, after_actual, actual_signal, connect_at, connect_by, equals_at, connection_says, connections_say, cell_of, with_last, ram_of_word, gate_of_kind, gate_says, cover_signals, cover_of, names_say, row_line}
-use Rattle.ice_blif.specs.Formals.{of_gate}
+use Rattle.ice_blif.specs.Formals.{FormalsForm, formal_place, formal_ins, of_gate}
 use Rattle.ice_blif.proofs.Kept.{bind_keeps, either, weaker}
 use Rattle.ice_ram_words.specs.declared.kind.Edges.{Edges}
 use Rattle.ice_ram_words.specs.Words.{edges_of}
-use Rattle.ice_blif_laws.proofs.NoRams.{OpensNone}
 use Rattle.ice_blif_laws.specs.NetlistText.{NetSoFar, Wiring, port_joins, actual_joins, connection_joins, connections_join, gate_joins, gate_directive, signal_joins, cover_joins, cover_row, row_joins_cover}
+
+-- the words behind `.gate` or `.subckt` are no RAM's
+abbrev pub OpensNone : List (List ℕ) → Type 0
+OpensNone [] = Unit {0}
+OpensNone (w ∷ ws) = edges_of w ≡ None
 
 -- what the reader has read so far, in the words of the text
 abbrev pub seen : NetReading → NetSoFar
@@ -49,10 +53,10 @@ ports_said line way n (name ∷ names) =
     (λ k later. ap (λ (x : NetlistData). fold (port_joins way) x names) same ∙ later) (ports_said line way m names))
 
 -- ---- gates
-abbrev Wired : Option Wiring → NetlistData × Connections → Type 0
+abbrev pub Wired : Option Wiring → NetlistData × Connections → Type 0
 Wired o c = o ≡ Some (c.0, c.1.signals)
 
-equals_is : (word : List ℕ) → equals_at word ≡ position (λ b. b == 61) word
+pub equals_is : (word : List ℕ) → equals_at word ≡ position (λ b. b == 61) word
 unfolding equals_at
 equals_is word = refl
 
@@ -64,37 +68,47 @@ actual_said output actual n signals place = by (is_missing output actual)
     by true = refl
     by false = refl
 
-connection_said : (line : ℕ) (gate : GateForm) (n : NetlistData) (wiring : Connections) (word : List ℕ) → IfOk (connection_says line (of_gate gate) n wiring word) (Wired (connection_joins gate word (n, wiring.signals)))
-connection_said line gate n wiring word = by (equals_at word) (equals_is word)
+-- an actual at the place of its formal, if there is one
+abbrev placed : FormalsForm → List ℕ → NetlistData → Connections → ℕ → Option ℕ → Option Wiring
+placed formals word n wiring at o = option_map (λ place. actual_joins (nat_le (formal_ins formals) place) (drop (at + 1) word) (n, wiring.signals) place) o
+
+connection_said : (line : ℕ) (formals : FormalsForm) (n : NetlistData) (wiring : Connections) (word : List ℕ)
+    → IfOk (connection_says line formals n wiring word) (Wired (connection_joins (formal_ins formals) (formal_place formals) word (n, wiring.signals)))
+connection_said line formals n wiring word = by (equals_at word) (equals_is word)
   where
-    at_place : (at : ℕ) (o : Option ℕ) → IfOk (connect_at line (of_gate gate) n wiring (drop (at + 1) word) o) (Wired (option_map (λ place. actual_joins (nat_le (ins_count gate.kind) place) (drop (at + 1) word) (n, wiring.signals) place) o))
+    at_place : (at : ℕ) (o : Option ℕ) → IfOk (connect_at line formals n wiring (drop (at + 1) word) o) (Wired (placed formals word n wiring at o))
     at_place at None = tt
-    at_place at (Some place) = ap (λ (c : Wiring). Some c) (actual_said (nat_le (ins_count gate.kind) place) (drop (at + 1) word) n wiring.signals place)
+    at_place at (Some place) = ap (λ (c : Wiring). Some c) (actual_said (nat_le (formal_ins formals) place) (drop (at + 1) word) n wiring.signals place)
 
-    by : (o : Option ℕ) → o ≡ position (λ b. b == 61) word → IfOk (connect_by line (of_gate gate) n wiring word o) (Wired (connection_joins gate word (n, wiring.signals)))
+    by : (o : Option ℕ) → o ≡ position (λ b. b == 61) word → IfOk (connect_by line formals n wiring word o) (Wired (connection_joins (formal_ins formals) (formal_place formals) word (n, wiring.signals)))
     by None e = tt
-    by (Some at) e = subst (λ (o : Option ℕ). IfOk (connect_by line (of_gate gate) n wiring word (Some at)) (Wired (option_and_then (λ at. option_map (λ place. actual_joins (nat_le (ins_count gate.kind) place) (drop (at + 1) word) (n, wiring.signals) place) (gate_place gate (take at word))) o))) e (at_place at (gate_place gate (take at word)))
+    by (Some at) e = subst (λ (o : Option ℕ). IfOk (connect_by line formals n wiring word (Some at)) (Wired (option_and_then (λ at. placed formals word n wiring at (formal_place formals (take at word))) o))) e (at_place at (formal_place formals (take at word)))
 
-connections_said : (line : ℕ) (gate : GateForm) (n : NetlistData) (wiring : Connections) (ws : List (List ℕ)) → IfOk (connections_say line (of_gate gate) n wiring ws) (Wired (connections_join gate ws (n, wiring.signals)))
-connections_said line gate n wiring [] = either (Wired (Some (n, wiring.signals))) wiring.twice (Err (PortTwice line)) (Ok (n, wiring)) tt refl
-connections_said line gate n wiring (w ∷ ws) =
-    bind_keeps (Wired (connection_joins gate w (n, wiring.signals))) (Wired (connections_join gate (w ∷ ws) (n, wiring.signals))) (connection_says line (of_gate gate) n wiring w) (λ c. connections_say line (of_gate gate) c.0 c.1 ws) (connection_said line gate n wiring w)
-    (λ c one. weaker (Wired (connections_join gate ws (c.0, c.1.signals))) (Wired (connections_join gate (w ∷ ws) (n, wiring.signals))) (connections_say line (of_gate gate) c.0 c.1 ws)
-    (λ k later. ap (option_and_then (connections_join gate ws)) one ∙ later) (connections_said line gate c.0 c.1 ws))
+pub connections_said : (line : ℕ) (formals : FormalsForm) (n : NetlistData) (wiring : Connections) (ws : List (List ℕ))
+    → IfOk (connections_say line formals n wiring ws) (Wired (connections_join (formal_ins formals) (formal_place formals) ws (n, wiring.signals)))
+connections_said line formals n wiring [] = either (Wired (Some (n, wiring.signals))) wiring.twice (Err (PortTwice line)) (Ok (n, wiring)) tt refl
+connections_said line formals n wiring (w ∷ ws) =
+    let inputs : ℕ = formal_ins formals in
+    bind_keeps (Wired (connection_joins inputs (formal_place formals) w (n, wiring.signals))) (Wired (connections_join inputs (formal_place formals) (w ∷ ws) (n, wiring.signals))) (connection_says line formals n wiring w) (λ c. connections_say line formals c.0 c.1 ws) (connection_said line formals n wiring w)
+    (λ c one. weaker (Wired (connections_join inputs (formal_place formals) ws (c.0, c.1.signals))) (Wired (connections_join inputs (formal_place formals) (w ∷ ws) (n, wiring.signals))) (connections_say line formals c.0 c.1 ws)
+    (λ k later. ap (option_and_then (connections_join inputs (formal_place formals) ws)) one ∙ later) (connections_said line formals c.0 c.1 ws))
 
 -- what is no RAM and no gate is no cell
 other_said : (line : ℕ) (r : NetReading) (ws : List (List ℕ)) (o : Option Edges) → o ≡ None → Alike None (ram_of_word line r ws o)
 other_said line r ws None none = tt
 other_said line r ws (Some edges) none = absurd (cc)
 
+abbrev gate_joined : NetReading → List (List ℕ) → GateForm → Option Wiring
+gate_joined r ws gate = connections_join (ins_count gate.kind) (gate_place gate) ws (r.netlist, no_wiring.signals)
+
 pub gate_said : (line : ℕ) (r : NetReading) (ws : List (List ℕ)) → OpensNone ws → Alike (gate_directive line ws (seen r)) (gate_says line r ws)
 gate_said line r [] none = tt
 gate_said line r (w ∷ ws) none = by (gate_kind_of w)
   where
-    by : (o : Option GateForm) → Alike (option_and_then (λ gate. option_map (gate_joins line gate r.last) (connections_join gate ws (r.netlist, no_wiring.signals))) o) (gate_of_kind line r w ws o)
+    by : (o : Option GateForm) → Alike (option_and_then (λ gate. option_map (gate_joins line gate r.last) (gate_joined r ws gate)) o) (gate_of_kind line r w ws o)
     by None = other_said line r ws (edges_of w) none
     by (Some gate) =
-        bind_keeps (Wired (connections_join gate ws (r.netlist, no_wiring.signals))) (λ (s : NetReading). option_map (gate_joins line gate r.last) (connections_join gate ws (r.netlist, no_wiring.signals)) ≡ Some (seen s)) (connections_say line (of_gate gate) r.netlist no_wiring ws) (λ c. Ok (with_last c.0 r.last (Gate (cell_of line gate c.1)) false)) (connections_said line gate r.netlist no_wiring ws)
+        bind_keeps (Wired (gate_joined r ws gate)) (λ (s : NetReading). option_map (gate_joins line gate r.last) (gate_joined r ws gate) ≡ Some (seen s)) (connections_say line (of_gate gate) r.netlist no_wiring ws) (λ c. Ok (with_last c.0 r.last (Gate (cell_of line gate c.1)) false)) (connections_said line (of_gate gate) r.netlist no_wiring ws)
         (λ c one. ap (option_map (gate_joins line gate r.last)) one)
 
 -- ---- covers

@@ -1,3 +1,4 @@
+pub mod ClosedText
 pub mod NetlistText
 pub mod NetlistTextLaw
 pub mod ReadNames

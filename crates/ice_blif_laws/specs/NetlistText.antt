@@ -48,18 +48,16 @@ actual_joins output actual c place =
     if bytes_eq actual (codes "") || (if output then bytes_eq actual (codes "$undef") else false) then (c.0, slice_set c.1 place None)
     else (named c.0 actual, slice_set c.1 place (Some (signal_of c.0 actual)))
 
--- FORMAL=ACTUAL: the formal ends at the first `=`, which is 61
-abbrev pub connection_joins : GateForm → List ℕ → Wiring → Option Wiring
-connection_joins gate word c =
-    option_and_then (λ at. option_map (λ place.
-    actual_joins (nat_le (ins_count gate.kind) place) (drop (at + 1) word) c place)
-    (gate_place gate (take at word))) (position (λ b. b == 61) word)
+-- FORMAL=ACTUAL: the formal ends at the first `=`, which is 61; the places behind those of so many inputs are the outputs'
+abbrev pub connection_joins : ℕ → (List ℕ → Option ℕ) → List ℕ → Wiring → Option Wiring
+connection_joins inputs place_of word c =
+    option_and_then (λ at. option_map (λ place. actual_joins (nat_le inputs place) (drop (at + 1) word) c place) (place_of (take at word)))
+    (position (λ b. b == 61) word)
 
-abbrev pub connections_join : GateForm → List (List ℕ) → Wiring → Option Wiring
-connections_join gate [] c = Some c
-connections_join gate (word ∷ more) c = option_and_then (connections_join gate more) (connection_joins gate word c)
+abbrev pub connections_join : ℕ → (List ℕ → Option ℕ) → List (List ℕ) → Wiring → Option Wiring
+connections_join inputs place_of [] c = Some c
+connections_join inputs place_of (word ∷ more) c = option_and_then (connections_join inputs place_of more) (connection_joins inputs place_of word c)
 
--- the places behind those of the inputs are the outputs'
 abbrev pub gate_joins : ℕ → GateForm → LastCell → Wiring → NetSoFar
 gate_joins line gate last c = (
   finished c.0 last,
@@ -75,7 +73,8 @@ gate_joins line gate last c = (
 abbrev pub gate_directive : ℕ → List (List ℕ) → NetSoFar → Option NetSoFar
 gate_directive line [] r = None
 gate_directive line (kind ∷ connections) r =
-    option_and_then (λ gate. option_map (gate_joins line gate r.1) (connections_join gate connections (r.0, replicate 76 None))) (gate_kind_of kind)
+    option_and_then (λ gate. option_map (gate_joins line gate r.1)
+    (connections_join (ins_count gate.kind) (gate_place gate) connections (r.0, replicate 76 None))) (gate_kind_of kind)
 
 -- ---- covers
 abbrev pub signal_joins : Wiring → List ℕ → Wiring
@@ -124,23 +123,24 @@ directive_joins line first others r =
 -- a directive begins with a dot, 46, and any other line is a row of the cover that was made last
 abbrev pub blif_line_joins : ℕ → List ℕ → List (List ℕ) → NetSoFar → Option NetSoFar
 blif_line_joins line first others r =
-    if begins_with 46 first then directive_joins line first others r
-    else row_joins_cover r.1 (first ∷ others) r.0
+    if begins_with 46 first then directive_joins line first others r else row_joins_cover r.1 (first ∷ others) r.0
 
--- the lines behind `.model`, up to `.end`
-abbrev pub model_lines : List (ℕ × List (List ℕ)) → NetSoFar → Option NetlistData
-model_lines [] r = None
-model_lines ((line, []) ∷ more) r = model_lines more r
-model_lines ((line, first ∷ others) ∷ more) r =
-    if bytes_eq first (codes ".end") then Some (finished r.0 r.1)
-    else option_and_then (model_lines more) (blif_line_joins line first others r)
+-- what the lines behind `.model` say, up to `.end`: each joins what those before it say
+abbrev pub model_lines : {S : Type 0} → (ℕ → List ℕ → List (List ℕ) → S → Option S) → List (ℕ × List (List ℕ)) → S → Option S
+model_lines joins [] r = None
+model_lines joins ((line, []) ∷ more) r = model_lines joins more r
+model_lines joins ((line, first ∷ others) ∷ more) r =
+    if bytes_eq first (codes ".end") then Some r else option_and_then (model_lines joins more) (joins line first others r)
 
-abbrev pub blif_lines_join : List (ℕ × List (List ℕ)) → Option NetlistData
-blif_lines_join [] = None
-blif_lines_join ((line, []) ∷ more) = blif_lines_join more
-blif_lines_join ((line, first ∷ others) ∷ more) =
-    if bytes_eq first (codes ".model") then model_lines more (empty_netlist, Nothing) else None
+abbrev pub blif_lines_join : {S : Type 0} → (ℕ → List ℕ → List (List ℕ) → S → Option S) → S → List (ℕ × List (List ℕ)) → Option S
+blif_lines_join joins r [] = None
+blif_lines_join joins r ((line, []) ∷ more) = blif_lines_join joins r more
+blif_lines_join joins r ((line, first ∷ others) ∷ more) = if bytes_eq first (codes ".model") then model_lines joins more r else None
 
--- the netlist that a text says, with pads taken apart that have registers or feed globals
+-- the netlist with its last cell, where pads are taken apart that have registers or feed globals
+abbrev pub whole : NetSoFar → NetlistData
+whole r = taken_apart (finished r.0 r.1)
+
+-- the netlist that a text says
 abbrev pub netlist_in : List ℕ → Option NetlistData
-netlist_in text = option_map taken_apart (blif_lines_join (joined_lines (numbered 1 (lines text))))
+netlist_in text = option_map whole (blif_lines_join blif_line_joins (empty_netlist, Nothing) (joined_lines (numbered 1 (lines text))))

@@ -1,5 +1,5 @@
 //! Laws of the netlists that texts say. The functions do nothing: their contracts are the laws.
-ghost use Rattle.ice_blif_laws.specs.NetlistTextLaw.{NetlistTextsSayNetlists};
+ghost use Rattle.ice_blif_laws.specs.NetlistTextLaw.{TextsSayClosedNetlists, NetlistTextsSayNetlists};
 ghost use Rattle.ice_blif_laws.specs.ReadNames.{ReadNamesAreKnown};
 ghost use Rattle.ice_blif_laws.specs.SameNames.{TextsNameOnce, WrittenShowsTheSame};
 
@@ -17,6 +17,11 @@ pub fn written_shows_the_same()
 /// line, a blank, and `in` or `out`.
 pub fn read_names_are_known()
     ensures { ReadNamesAreKnown }
+{}
+
+/// A netlist text that the reader takes says the closed netlist that the reader makes of it.
+pub fn texts_say_closed_netlists()
+    ensures { TextsSayClosedNetlists }
 {}
 
 /// A netlist text without RAMs that the reader takes says the netlist that the reader makes of it.

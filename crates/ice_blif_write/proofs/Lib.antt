@@ -1,5 +1,5 @@
 mod WrittenLines
-mod NamesRead
+pub mod NamesRead
 mod GateRead
 mod Reading
 mod DigitsRead

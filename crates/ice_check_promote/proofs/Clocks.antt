@@ -1,5 +1,5 @@
 -- The clocks that are promoted are signals that flip-flops read, and they are few.
-use Rattle.std.proofs.Common.{◌≡◌, ℕ, zero, suc, ◌+◌, ◌-◌, ◌<◌, ◌≤◌, ◌==◌, true, Option, None, Some, List, [], ◌∷◌, length, map, filter, ap, arith, ltb-true, length-take, min}
+use Rattle.std.proofs.Common.{◌≡◌, ℕ, zero, suc, ◌+◌, ◌-◌, ◌<◌, ◌≤◌, ◌==◌, true, Option, None, Some, List, [], ◌∷◌, length, map, filter, refl, ap, arith, ltb-true, length-take, min}
 use Rattle.std.specs.Prelude.{slice_index_or}
 use Rattle.std.specs.List.{flat_map, range_with_len}
 use Rattle.std.proofs.lemmas.Bool.{and_parts}
@@ -19,10 +19,16 @@ use Rattle.ice_check_promote.specs.Promoted.{clock_by, clock_of, is_clock, settl
 use Rattle.ice_check.proofs.Places.{wire, times_has, has_place}
 use Rattle.ice_check.proofs.Uses.{used_at}
 
-in_range : (a count i x : ℕ) → At (range_with_len a count) i x → x < a + count
+pub in_range : (a count i x : ℕ) → At (range_with_len a count) i x → x < a + count
 in_range a zero i x at = absurd (none-some x at)
 in_range a (suc count) zero x at = let same : a ≡ x = same_Some a x at in omega arith
 in_range a (suc count) (suc i) x at = let rest : x < a + 1 + count = in_range (a + 1) count i x at in omega arith
+
+-- a place within a list has a number
+pub there_at : (xs : List ℕ) (i : ℕ) → i < length xs → (x : ℕ) × At xs i x
+there_at [] i lt = absurd (omega (arith, lt))
+there_at (x ∷ xs) zero lt = (x, refl)
+there_at (x ∷ xs) (suc i) lt = there_at xs i (omega (arith, lt))
 
 -- a clock is one of the netlist's signals that many flip-flops read
 pub promotable : (n : NetlistData) (free j clock : ℕ) → At (promoted_clocks n free) j clock → (clock < length n.names) × (is_promotable n clock ≡ true)

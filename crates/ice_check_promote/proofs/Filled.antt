@@ -1,17 +1,18 @@
 -- What is added to the netlist with buffers: ports one after another, and which name and which cell comes next.
-use Rattle.std.proofs.Common.{◌≡◌, ℕ, zero, suc, ◌+◌, ◌<◌, ◌≤◌, ◌==◌, false, Option, None, Some, List, [], ◌∷◌, length, map, take, get_or, All, refl, sym, ap, ◌∙◌, arith, length-append, true≢false}
+use Rattle.std.proofs.Common.{◌≡◌, ℕ, zero, suc, ◌+◌, ◌<◌, ◌≤◌, ◌==◌, false, Option, None, Some, List, [], ◌∷◌, ◌++◌, length, map, take, get_or, All, refl, sym, ap, ◌∙◌, subst, arith, length-append, true≢false}
 use Rattle.std.specs.List.{IsDistinct}
-use Rattle.std.proofs.lemmas.List.{get_or_default, get_or-map, length-map, take_more, take_all}
+use Rattle.std.proofs.lemmas.List.{get_or_default, get_or-map, length-map, map-append, take_more, take_all}
 use Rattle.std.proofs.lemmas.List.Quantifiers.{position-Some}
 use Rattle.std.proofs.lemmas.Map.Keys.{apart_from_distinct}
+use Rattle.ice_base.specs.declared.number.SignalNo.{SignalNo}
 use Rattle.ice_net.specs.declared.cell.Cell.{Cell}
 use Rattle.ice_net.specs.declared.port.Port.{Port}
 use Rattle.ice_net.specs.Formed.{IsFormed, IsFormedCell, port_numbers}
 use Rattle.ice_net.specs.NetlistData.{NetlistData, is_at, port_at, port_by, with_port}
-use Rattle.ice_check_promote.specs.Promoted.{buffered_name, buffered_cell, buffer, buffers, with_buffers}
+use Rattle.ice_check_promote.specs.Promoted.{buffered_name, buffered_cell, buffer, buffers, with_buffers, passing_cell}
 use Rattle.ice_net_additions.specs.Adding.{with_cells, HasRoomForCells}
 use Rattle.ice_net_additions.proofs.Added.{all_left, all_right, taken}
-use Rattle.ice_check_promote.specs.Filling.{buffer_names}
+use Rattle.ice_check_promote.specs.Filling.{buffer_names, clocked_cell, filled}
 use Rattle.ice_check_promote.proofs.Buffers.{length_buffers}
 
 -- ---- ports
@@ -57,9 +58,9 @@ ports_more n m now ports i d once lt e next =
 
 -- ---- cells
 -- the cell that is made of one at this place
-pub cell_made : (count : ℕ) (clocks : List ℕ) (cells : List Cell) (i : ℕ) (cell made : Cell) → i < length cells → cell ≡ get_or cells i cell → made ≡ buffered_cell count clocks cell
-    → made ≡ get_or (map (buffered_cell count clocks) cells) i made
-cell_made count clocks cells i cell made lt is e = e ∙ ap (buffered_cell count clocks) is ∙ sym (get_or-map (buffered_cell count clocks) cells i cell made lt)
+pub cell_made : (count : ℕ) (clocks : List ℕ) (outer : List SignalNo) (cells : List Cell) (i : ℕ) (cell made : Cell) → i < length cells → cell ≡ get_or cells i cell → made ≡ clocked_cell count clocks outer cell
+    → made ≡ get_or (map (clocked_cell count clocks outer) cells) i made
+cell_made count clocks outer cells i cell made lt is e = e ∙ ap (clocked_cell count clocks outer) is ∙ sym (get_or-map (clocked_cell count clocks outer) cells i cell made lt)
 
 buffer_there : (next : ℕ) (clocks : List ℕ) (i d : ℕ) (other : Cell) → i < length clocks → get_or (buffers next clocks) i other ≡ buffer (get_or clocks i d) (next + i)
 buffer_there next [] i d other lt = absurd (omega (arith, lt))
@@ -73,8 +74,8 @@ buffer_made next clocks i d made lt e = e ∙ sym (buffer_there next clocks i d 
 pub buffers_long : (next : ℕ) (clocks : List ℕ) (i : ℕ) → i < length clocks → i < length (buffers next clocks)
 buffers_long next clocks i lt = let long = length_buffers next clocks in omega (arith, long, lt)
 
-pub cells_long : (count : ℕ) (clocks : List ℕ) (cells : List Cell) (i : ℕ) → i < length cells → i < length (map (buffered_cell count clocks) cells)
-cells_long count clocks cells i lt = let long = length-map cells (buffered_cell count clocks) in omega (arith, long, lt)
+pub cells_long : (count : ℕ) (clocks : List ℕ) (outer : List SignalNo) (cells : List Cell) (i : ℕ) → i < length cells → i < length (map (clocked_cell count clocks outer) cells)
+cells_long count clocks outer cells i lt = let long = length-map cells (clocked_cell count clocks outer) in omega (arith, long, lt)
 
 -- the name that is made for the clock at this place
 pub names_long : (n : NetlistData) (clocks : List ℕ) (i : ℕ) → i < length clocks → i < length (buffer_names n clocks)
@@ -87,40 +88,70 @@ name_made n clocks i d name made lt below is e =
     ∙ ap buffered_name (is ∙ get_or_default n.names (get_or clocks i d) name [] (below i d lt))
     ∙ sym (get_or-map (λ clock. buffered_name (get_or n.names clock [])) clocks i d made lt)
 
--- ---- room for all cells
+-- ---- all cells
+-- a buffer passes no clock on
+same_buffers : (count next : ℕ) (clocks list : List ℕ) (outer : List SignalNo) → map (passing_cell count clocks outer) (buffers next list) ≡ buffers next list
+same_buffers count next clocks [] outer = refl
+same_buffers count next clocks (clock ∷ list) outer = ap (λ rest. buffer clock next ∷ rest) (same_buffers count (next + 1) clocks list outer)
+
+-- the cells that were there, and behind them the buffers
+pub cells_are : (n : NetlistData) (outer : List SignalNo) (clocks : List ℕ) → (filled n outer clocks).cells ≡ map (clocked_cell (length n.names) clocks outer) n.cells ++ buffers (length n.names) clocks
+cells_are n outer clocks =
+    let count = length n.names in
+    map-append (passing_cell count clocks outer) (map (buffered_cell count clocks) n.cells) (buffers count clocks)
+    ∙ ap (λ cells. cells ++ map (passing_cell count clocks outer) (buffers count clocks)) (twice n.cells)
+    ∙ ap (λ cells. map (clocked_cell count clocks outer) n.cells ++ cells) (same_buffers count count clocks clocks outer)
+  where
+    twice : (cells : List Cell) → map (passing_cell (length n.names) clocks outer) (map (buffered_cell (length n.names) clocks) cells) ≡ map (clocked_cell (length n.names) clocks outer) cells
+    twice [] = refl
+    twice (cell ∷ cells) = ap (λ rest. clocked_cell (length n.names) clocks outer cell ∷ rest) (twice cells)
+
+-- there is room for all of them
+module _ (n : NetlistData) (outer : List SignalNo) (clocks : List ℕ) (formed : IsFormed (filled n outer clocks)) where
+  abbrev olds : List Cell
+  olds = map (clocked_cell (length n.names) clocks outer) n.cells
+
+  abbrev news : List Cell
+  news = buffers (length n.names) clocks
+
+  all_few : length olds + length news ≤ 1073741823
+  all_few =
+      let few = formed.few_cells in
+      let are = ap length (cells_are n outer clocks) in
+      let long = length-append olds news in
+      omega (arith, few, are, long)
+
+  all_formed : All (IsFormedCell (length (with_buffers n clocks).names)) (olds ++ news)
+  all_formed = subst (All (IsFormedCell (length (with_buffers n clocks).names))) (cells_are n outer clocks) formed.cells
+
 -- the netlist with all names and ports has room for the cells
-pub old_cells_room : (n made : NetlistData) (clocks taken : List ℕ) (cells : List Cell) (count : ℕ) → IsFormed (with_buffers n clocks) → made ≡ record (with_buffers n clocks) { cells = [] }
-    → count ≡ length n.names → taken ≡ clocks → cells ≡ n.cells → HasRoomForCells made (map (buffered_cell count taken) cells)
-old_cells_room n made clocks taken cells count formed e counted took copied =
+pub old_cells_room : (n made : NetlistData) (outer : List SignalNo) (clocks taken : List ℕ) (cells : List Cell) (count : ℕ) → IsFormed (filled n outer clocks) → made ≡ record (with_buffers n clocks) { cells = [] }
+    → count ≡ length n.names → taken ≡ clocks → cells ≡ n.cells → HasRoomForCells made (map (clocked_cell count taken outer) cells)
+old_cells_room n made outer clocks taken cells count formed e counted took copied =
     rw (e, counted, took, copied) (record {
-      few =
-          (let few = formed.few_cells in
-          let long = length-append (map (buffered_cell (length n.names) clocks) n.cells) (buffers (length n.names) clocks) in
-          omega (arith, few, long));
-      formed = all_left (IsFormedCell (length (with_buffers n clocks).names)) (map (buffered_cell (length n.names) clocks) n.cells) (buffers (length n.names) clocks) formed.cells;
+      few = (let few = all_few n outer clocks formed in omega (arith, few));
+      formed = all_left (IsFormedCell (length (with_buffers n clocks).names)) (olds n outer clocks formed) (news n outer clocks formed) (all_formed n outer clocks formed);
     })
 
 -- and then for the buffers
-pub buffers_room : (n made : NetlistData) (clocks taken : List ℕ) (count : ℕ) → IsFormed (with_buffers n clocks)
-    → made ≡ record (with_buffers n clocks) { cells = map (buffered_cell (length n.names) clocks) n.cells }
+pub buffers_room : (n made : NetlistData) (outer : List SignalNo) (clocks taken : List ℕ) (count : ℕ) → IsFormed (filled n outer clocks)
+    → made ≡ record (with_buffers n clocks) { cells = map (clocked_cell (length n.names) clocks outer) n.cells }
     → count ≡ length n.names → taken ≡ clocks → HasRoomForCells made (buffers count taken)
-buffers_room n made clocks taken count formed e counted took =
+buffers_room n made outer clocks taken count formed e counted took =
     rw (e, counted, took) (record {
-      few =
-          (let few = formed.few_cells in
-          let long = length-append (map (buffered_cell (length n.names) clocks) n.cells) (buffers (length n.names) clocks) in
-          omega (arith, few, long));
-      formed = all_right (IsFormedCell (length (with_buffers n clocks).names)) (map (buffered_cell (length n.names) clocks) n.cells) (buffers (length n.names) clocks) formed.cells;
+      few = all_few n outer clocks formed;
+      formed = all_right (IsFormedCell (length (with_buffers n clocks).names)) (olds n outer clocks formed) (news n outer clocks formed) (all_formed n outer clocks formed);
     })
 
 -- the old cells are there
-pub with_old_cells : (n made now : NetlistData) (clocks taken : List ℕ) (cells : List Cell) (count : ℕ) → made ≡ record (with_buffers n clocks) { cells = [] }
-    → count ≡ length n.names → taken ≡ clocks → cells ≡ n.cells → now ≡ with_cells made (map (buffered_cell count taken) cells)
-    → now ≡ record (with_buffers n clocks) { cells = map (buffered_cell (length n.names) clocks) n.cells }
-with_old_cells n made now clocks taken cells count e counted took copied is =
+pub with_old_cells : (n made now : NetlistData) (outer : List SignalNo) (clocks taken : List ℕ) (cells : List Cell) (count : ℕ) → made ≡ record (with_buffers n clocks) { cells = [] }
+    → count ≡ length n.names → taken ≡ clocks → cells ≡ n.cells → now ≡ with_cells made (map (clocked_cell count taken outer) cells)
+    → now ≡ record (with_buffers n clocks) { cells = map (clocked_cell (length n.names) clocks outer) n.cells }
+with_old_cells n made now outer clocks taken cells count e counted took copied is =
     is ∙ rw (e, counted, took, copied) refl
 
 -- the buffers are there, too
-pub with_all_cells : (n made now : NetlistData) (clocks taken : List ℕ) (count : ℕ) → made ≡ record (with_buffers n clocks) { cells = map (buffered_cell (length n.names) clocks) n.cells }
-    → count ≡ length n.names → taken ≡ clocks → now ≡ with_cells made (buffers count taken) → now ≡ with_buffers n clocks
-with_all_cells n made now clocks taken count e counted took is = is ∙ rw (e, counted, took) refl
+pub with_all_cells : (n made now : NetlistData) (outer : List SignalNo) (clocks taken : List ℕ) (count : ℕ) → made ≡ record (with_buffers n clocks) { cells = map (clocked_cell (length n.names) clocks outer) n.cells }
+    → count ≡ length n.names → taken ≡ clocks → now ≡ with_cells made (buffers count taken) → now ≡ filled n outer clocks
+with_all_cells n made now outer clocks taken count e counted took is =
+    is ∙ rw (e, counted, took) (ap (λ (cells : List Cell). record (with_buffers n clocks) { cells = cells }) (sym (cells_are n outer clocks)))

@@ -3,6 +3,12 @@ pub mod NewDrivers
 mod NewValues
 mod NewSteps
 pub mod Clocks
+pub mod Behind
+mod Cycles
+pub mod Passing
+mod PassingSteps
+mod PassingSound
+pub mod Buffered
 mod NewFormed
 mod NewSound
 mod PromotionExamples

@@ -6,6 +6,7 @@ use Rattle.std.proofs.lemmas.List.{append_cancel_right, get_or-map, length-map}
 use Rattle.std.proofs.lemmas.List.Elements.{All-head, All-tail}
 use Rattle.std.proofs.lemmas.Map.Keys.{IsDistinct-head, IsDistinct-tail, IsDistinct-cons, IsDistinct-from_apart, apart_from_distinct}
 use Rattle.std.proofs.lemmas.Option.{slice_get-get_or}
+use Rattle.ice_base.specs.declared.number.SignalNo.{SignalNo}
 use Rattle.ice_base.proofs.TextLines.{all_append}
 use Rattle.ice_net.specs.NetlistData.{NetlistData}
 use Rattle.ice_net.specs.Formed.{IsFormed, IsSingle}
@@ -93,8 +94,8 @@ plain_apart n name plain [] = tt
 plain_apart n name plain (clock ∷ clocks) = (differ name (buffered_name (get_or n.names clock [])) (plain (get_or n.names clock [])), plain_apart n name plain clocks)
 
 -- ---- the premises of the whole
-pub can_take : (n : NetlistData) (free : ℕ) → IsFormed n → IsSingle n → CanBePromoted n → CanTakeBuffers n (promoted_clocks n free)
-can_take n free formed single can = record {
+pub can_take : (n : NetlistData) (outer : List SignalNo) (free : ℕ) → IsFormed n → IsSingle n → CanBePromoted n → CanTakeBuffers n outer (promoted_clocks n free)
+can_take n outer free formed single can = record {
   formed = formed;
   single = single;
   below = clocks_below n free;
@@ -108,5 +109,5 @@ can_take n free formed single can = record {
         (IsDistinct-from_apart bytes_eq (buffer_names n (promoted_clocks n free)) (news_apart n free single.names))
         (λ name plain. plain_apart n name plain (promoted_clocks n free));
   };
-  made = promoted_formed n free formed can.room;
+  made = promoted_formed n outer free formed can.room;
 }

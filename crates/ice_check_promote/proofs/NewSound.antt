@@ -14,9 +14,11 @@ use Rattle.ice_check.proofs.Places.{wire}
 use Rattle.ice_net_additions.proofs.AddedCells.{Ins}
 use Rattle.ice_net_additions.proofs.AddedNames.{one_below}
 use Rattle.ice_net_additions.proofs.GrownSound.{AreInUse, sound_after}
-use Rattle.ice_check_promote.specs.Promoted.{buffered_name, reads_clock, promoted_clocks, promoted}
+use Rattle.ice_check_promote.specs.Promoted.{buffered_name, reads_clock, with_buffers, promoted_clocks, promoted}
 use Rattle.ice_check_promote.proofs.Buffers.{growth}
+use Rattle.ice_check_promote.proofs.Buffered.{buffered_facts}
 use Rattle.ice_check_promote.proofs.Clocks.{clock_below, clock_used}
+use Rattle.ice_check_promote.proofs.PassingSound.{passing_sound}
 
 the_clock : (clock s : ℕ) → Has (reads_clock clock) (wire s) → clock ≡ s
 the_clock clock s (zero, at) =
@@ -34,7 +36,8 @@ in_use n clocks below used = record {
       subst (λ c. is_used n c ≡ true) (the_clock found.0 s read) (used j found.0 found.1);
 }
 
-pub promoted_sound : (n : NetlistData) (free : ℕ) → IsFormed n → IsSound n → IsSound (promoted n free)
-promoted_sound n free formed sound =
-    sound_after (growth n (promoted_clocks n free)) formed
-    (in_use n (promoted_clocks n free) (λ j clock at. clock_below n free j clock at) (λ j clock at. clock_used n free j clock at)) sound
+pub promoted_sound : (n : NetlistData) (outer : List SignalNo) (free : ℕ) → IsFormed n → IsSound n → IsSound (promoted n outer free)
+promoted_sound n outer free formed sound =
+    let clocks = promoted_clocks n free in
+    passing_sound (length n.names) clocks outer (with_buffers n clocks) (buffered_facts n clocks formed (λ j clock at. clock_below n free j clock at))
+    (sound_after (growth n clocks) formed (in_use n clocks (λ j clock at. clock_below n free j clock at) (λ j clock at. clock_used n free j clock at)) sound)

@@ -28,6 +28,10 @@ netlist cells = record {
   cells = cells;
 }
 
+-- without outer clocks
+abbrev promoted_alone : NetlistData → ℕ → NetlistData
+promoted_alone n free = promoted n [] free
+
 -- sixteen flip-flops take a global network, fifteen do not
 sixteen : promoted_clocks (netlist (flops 0 1 2 16)) 8 ≡ 0 ∷ []
 sixteen = refl
@@ -35,7 +39,7 @@ sixteen = refl
 fifteen : promoted_clocks (netlist (flops 0 1 2 15)) 8 ≡ []
 fifteen = refl
 
-fifteen_stay : promoted (netlist (flops 0 1 2 15)) 8 ≡ netlist (map (λ cell. cell) (flops 0 1 2 15))
+fifteen_stay : promoted_alone (netlist (flops 0 1 2 15)) 8 ≡ netlist (map (λ cell. cell) (flops 0 1 2 15))
 fifteen_stay = refl
 
 -- no network is free
@@ -63,30 +67,30 @@ constant_clock : promoted_clocks (netlist (constant ∷ flops 33 1 2 16)) 8 ≡ 
 constant_clock = refl
 
 -- a clock that is read as data too keeps its other readers
-read_too : take 1 (promoted (netlist (flop 1 0 17 ∷ flops 0 0 2 16)) 8).cells ≡ flop 1 0 17 ∷ []
+read_too : take 1 (promoted_alone (netlist (flop 1 0 17 ∷ flops 0 0 2 16)) 8).cells ≡ flop 1 0 17 ∷ []
 read_too = refl
 
-read_behind : take 1 (drop 1 (promoted (netlist (flop 1 0 17 ∷ flops 0 0 2 16)) 8).cells) ≡ flop 34 0 2 ∷ []
+read_behind : take 1 (drop 1 (promoted_alone (netlist (flop 1 0 17 ∷ flops 0 0 2 16)) 8).cells) ≡ flop 34 0 2 ∷ []
 read_behind = refl
 
-buffer_last : drop 17 (promoted (netlist (flop 1 0 17 ∷ flops 0 0 2 16)) 8).cells
+buffer_last : drop 17 (promoted_alone (netlist (flop 1 0 17 ∷ flops 0 0 2 16)) 8).cells
     ≡ (record { kind = Global; line = 0; ins = wire 0 ∷ []; outs = wire 34 ∷ [] }) ∷ []
 buffer_last = refl
 
-name_last : drop 34 (promoted (netlist (flops 0 1 2 16)) 8).names ≡ codes "c gb" ∷ []
+name_last : drop 34 (promoted_alone (netlist (flops 0 1 2 16)) 8).names ≡ codes "c gb" ∷ []
 name_last = refl
 
 -- with sixteen flip-flops two inputs, sixteen outputs and the buffer's signal, and with fifteen no buffer's signal
 abbrev few_names : ℕ → List Cell → NetlistData
 few_names outs cells = record (netlist cells) { names = codes "c" ∷ codes "d" ∷ replicate outs (codes "q") }
 
-sixteen_signals : length (promoted (few_names 16 (flops 0 1 2 16)) 8).names ≡ 19
+sixteen_signals : length (promoted_alone (few_names 16 (flops 0 1 2 16)) 8).names ≡ 19
 sixteen_signals = refl
 
-sixteen_cells : length (promoted (few_names 16 (flops 0 1 2 16)) 8).cells ≡ 17
+sixteen_cells : length (promoted_alone (few_names 16 (flops 0 1 2 16)) 8).cells ≡ 17
 sixteen_cells = refl
 
-fifteen_signals : length (promoted (few_names 15 (flops 0 1 2 15)) 8).names ≡ 17
+fifteen_signals : length (promoted_alone (few_names 15 (flops 0 1 2 15)) 8).names ≡ 17
 fifteen_signals = refl
 
 -- each buffer of the netlist takes one of the eight globals, and eight leave none
@@ -95,3 +99,19 @@ seven_free = refl
 
 none_left : free_beside 8 (netlist (replicate 9 global)) ≡ 0
 none_left = refl
+
+-- a cover that passes the clock on to signal 20 reads the buffer where that is an outer clock, and does not count; another cover reads the clock itself
+abbrev passed : ℕ → Cell
+passed out = record { kind = Cover 2 1; line = 1; ins = wire 0 ∷ []; outs = wire out ∷ [] }
+
+abbrev behind : ℕ → Cell
+behind out = record { kind = Cover 2 1; line = 1; ins = wire 34 ∷ []; outs = wire out ∷ [] }
+
+outer_clock : take 2 (promoted (netlist (passed 20 ∷ passed 21 ∷ flops 0 1 2 16)) ((record { 0 = 20 }) ∷ []) 8).cells ≡ behind 20 ∷ passed 21 ∷ []
+outer_clock = refl
+
+no_outer_clock : take 2 (promoted_alone (netlist (passed 20 ∷ passed 21 ∷ flops 0 1 2 16)) 8).cells ≡ passed 20 ∷ passed 21 ∷ []
+no_outer_clock = refl
+
+outer_alone : promoted_clocks (netlist (passed 20 ∷ flops 0 1 2 15)) 8 ≡ []
+outer_alone = refl

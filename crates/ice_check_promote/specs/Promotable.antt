@@ -1,6 +1,7 @@
 -- What is asked of a netlist whose clocks are promoted.
 use Rattle.std.specs.Prelude.{◌≡◌, ◌≢◌, ◌⊎◌, ℕ, ◌<◌, List, [], ◌∷◌, length, All, Option, None, Some}
 use Rattle.ice_base.specs.Lines.{IsWord}
+use Rattle.ice_base.specs.declared.number.SignalNo.{SignalNo}
 use Rattle.ice_net.specs.NetlistData.{NetlistData}
 use Rattle.ice_check_promote.specs.Promoted.{buffered_name, promoted}
 use Rattle.ice_check_promote.specs.PromotionLaws.{most_cells_before}
@@ -28,6 +29,6 @@ abbrev pub NamesCanBePromoted : Type 0
 NamesCanBePromoted = (n : NetlistData) → All IsPromotableName n.names → length n.cells < most_cells_before → CanBePromoted n
 
 -- what is made: the netlist with promoted clocks, or nothing where it is the netlist itself
-abbrev pub IsPromotion : NetlistData → ℕ → Option NetlistData → Type 0
-IsPromotion n free None = promoted n free ≡ n
-IsPromotion n free (Some made) = made ≡ promoted n free
+abbrev pub IsPromotion : NetlistData → List SignalNo → ℕ → Option NetlistData → Type 0
+IsPromotion n outer free None = promoted n outer free ≡ n
+IsPromotion n outer free (Some made) = made ≡ promoted n outer free

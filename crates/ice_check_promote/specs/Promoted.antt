@@ -1,12 +1,13 @@
--- Clocks that take a free global network: a buffer is put behind each, and the flip-flops read the buffer's output.
+-- Clocks that take a free global network: a buffer is put behind each, and the flip-flops read the buffer's output. So do covers that
+-- pass a clock on to what closes the netlist, as a block RAM does.
 use Rattle.std.specs.Prelude.{ℕ, ◌+◌, ◌-◌, min, ◌==◌, ◌&&◌, Bool, true, false, nat_lt, codes, List, [], ◌∷◌, ◌++◌, length, map, take, Option, Some, None, if◌then◌else◌, slice_index_or}
-use Rattle.std.specs.List.{filter, range_with_len}
+use Rattle.std.specs.List.{filter, list_any, range_with_len}
 use Rattle.ice_base.specs.declared.number.SignalNo.{SignalNo}
 use Rattle.ice_net.specs.declared.cell.Cell.{Cell}
 use Rattle.ice_net.specs.declared.kind.CellKind.{CellKind}
 use Rattle.ice_net.specs.declared.kind.CellKind.TheVariants.{Lut, Cover, Carry, Flop, PadCell, Global}
 use Rattle.ice_net.specs.NetlistData.{NetlistData}
-use Rattle.ice_net.specs.Drivers.{output_of}
+use Rattle.ice_net.specs.Drivers.{is_signal, output_of}
 use Rattle.ice_net.specs.Limits.{most_signals}
 use Rattle.ice_check.specs.Tables.{times}
 use Rattle.ice_net_additions.specs.AddedCells.{added_cell, added_cells}
@@ -98,6 +99,32 @@ with_buffers n clocks = record {
   cells = map (buffered_cell (length n.names) clocks) n.cells ++ buffers (length n.names) clocks;
 }
 
--- The netlist in which clocks of many flip-flops take the free global networks. Nothing else of it changes.
-abbrev pub promoted : NetlistData → ℕ → NetlistData
-promoted n free = with_buffers n (promoted_clocks n free)
+-- ---- clocks that are read outside
+-- the signal is one of these, which what closes the netlist has as its clocks
+abbrev pub is_outer : List SignalNo → Option SignalNo → Bool
+is_outer outer pin = list_any (λ (signal : SignalNo). is_signal signal.0 pin) outer
+
+-- a cover passes its one input on to such a signal
+abbrev pub passes_out : List SignalNo → ℕ → ℕ → List (Option SignalNo) → Bool
+passes_out outer table width outs = is_outer outer (slice_index_or outs 0 None) && (width == 1) && (table == 2)
+
+-- such a cover reads the buffer; no other cell does for it
+abbrev pub passing_ins : ℕ → List ℕ → List SignalNo → CellKind → List (Option SignalNo) → List (Option SignalNo) → List (Option SignalNo)
+passing_ins next clocks outer (Lut table) outs ins = ins
+passing_ins next clocks outer (Cover table width) outs ins = if passes_out outer table width outs then buffered_first next clocks ins else ins
+passing_ins next clocks outer Carry outs ins = ins
+passing_ins next clocks outer (Flop falling enable reset) outs ins = ins
+passing_ins next clocks outer (PadCell pin_type pullup) outs ins = ins
+passing_ins next clocks outer Global outs ins = ins
+
+abbrev pub passing_cell : ℕ → List ℕ → List SignalNo → Cell → Cell
+passing_cell next clocks outer cell = record cell { ins = passing_ins next clocks outer cell.kind cell.outs cell.ins }
+
+-- the netlist in which these covers read the buffers, of which the first drives the signal `next`
+abbrev pub with_passing : ℕ → List ℕ → List SignalNo → NetlistData → NetlistData
+with_passing next clocks outer n = record n { cells = map (passing_cell next clocks outer) n.cells }
+
+-- The netlist in which clocks of many flip-flops take the free global networks, also for the outer clocks: the signals that what closes the
+-- netlist has as its clocks, and which do not count among the flip-flops. Nothing else of it changes.
+abbrev pub promoted : NetlistData → List SignalNo → ℕ → NetlistData
+promoted n outer free = with_passing (length n.names) (promoted_clocks n free) outer (with_buffers n (promoted_clocks n free))

@@ -3,8 +3,8 @@ ghost use Rattle.std.specs.Prelude.{◌≡◌, ◌==◌, ◌++◌, ◌+◌, ◌<
 ghost use Rattle.std.specs.List.{IsDistinct};
 ghost use Rattle.ice_net.specs.Formed.{IsFormed, IsSingle, IsFormedCell, IsPortBelow, port_numbers};
 ghost use Rattle.ice_net_additions.specs.Adding.{with_names, HasRoomForNames, with_cells, HasRoomForCells};
-ghost use Rattle.ice_check_promote.specs.Filling.{AreTargets, buffer_names, CanTakeBuffers};
-ghost use Rattle.ice_check_promote.specs.Promoted.{buffered_name, buffered_cell, buffer, buffers, with_buffers};
+ghost use Rattle.ice_check_promote.specs.Filling.{AreTargets, buffer_names, clocked_cell, filled, CanTakeBuffers};
+ghost use Rattle.ice_check_promote.specs.Promoted.{buffered_name, buffer, buffers, with_buffers};
 
 use crate::targets::Targets;
 use ice_base::{NoMemory, SignalNo};
@@ -70,23 +70,24 @@ fn add_ports(made: &mut Netlist, ports: &[Port]) -> Result<(), NoMemory>
 }
 
 // ---- cells
-// Adds these cells, of which the flip-flops' clock inputs read the buffers' signals.
+// Adds these cells, of which the clock inputs read the buffers' signals.
 #[tactic(auto, using(ice_net_additions::proofs::Added::cells_none, ice_net_additions::proofs::Added::cells_all, ice_net_additions::proofs::Added::cells_more, ice_net_additions::proofs::Added::cells_room, ice_net_additions::proofs::Added::cells_formed, crate::proofs::Filled::cell_made, crate::proofs::Filled::cells_long))]
 fn add_cells(
     alloc: Global,
     made: &mut Netlist,
     targets: &Targets,
+    outer: &[SignalNo],
     cells: &[Cell],
 ) -> Result<(), NoMemory>
     requires targets { AreTargets targets.now }
     requires formed { All (IsFormedCell targets.now.count) cells.now }
     requires room { HasRoomForCells made.old
-        (map (buffered_cell targets.now.count targets.now.clocks.items) cells.now) }
+        (map (clocked_cell targets.now.count targets.now.clocks.items outer.now) cells.now) }
     ensures { OnOk result (made.new ≡ with_cells made.old
-        (map (buffered_cell targets.now.count targets.now.clocks.items) cells.now)) }
+        (map (clocked_cell targets.now.count targets.now.clocks.items outer.now) cells.now)) }
 {
     for cell in cells {
-        made.cell(targets.cell(alloc, cell)?)?;
+        made.cell(targets.cell(alloc, outer, cell)?)?;
     }
     Ok(())
 }
@@ -125,8 +126,13 @@ fn add_buffers(
 
 // ---- the whole
 // The netlist with buffers for these clocks, but without cells.
-fn with_ports(alloc: Global, netlist: &Netlist, clocks: &[u32]) -> Result<Netlist, NoMemory>
-    requires { CanTakeBuffers netlist.now clocks.now }
+fn with_ports(
+    alloc: Global,
+    netlist: &Netlist,
+    outer: &[SignalNo],
+    clocks: &[u32],
+) -> Result<Netlist, NoMemory>
+    requires { CanTakeBuffers netlist.now outer.now clocks.now }
     ensures { IfOk result (λ made.
         made ≡ record (with_buffers netlist.now clocks.now) { cells = [] }) }
 {
@@ -136,21 +142,23 @@ fn with_ports(alloc: Global, netlist: &Netlist, clocks: &[u32]) -> Result<Netlis
     Ok(made)
 }
 
-/// The netlist with a buffer for each of these clocks. Each name, port and cell is passed once.
+/// The netlist with a buffer for each of these clocks, which flip-flops read, and covers that pass the clock on to an outer clock. Each
+/// name, port and cell is passed once.
 ///
 /// # Errors
 /// Want of memory alone.
 pub(crate) fn with_buffers(
     alloc: Global,
     netlist: &Netlist,
+    outer: &[SignalNo],
     clocks: Vec<u32>,
 ) -> Result<Netlist, NoMemory>
-    requires { CanTakeBuffers netlist.now clocks.items }
-    ensures { IfOk result (λ made. made ≡ with_buffers netlist.now clocks.items) }
+    requires { CanTakeBuffers netlist.now outer.now clocks.items }
+    ensures { IfOk result (λ made. made ≡ filled netlist.now outer.now clocks.items) }
 {
-    let mut made = with_ports(alloc, netlist, &clocks)?;
+    let mut made = with_ports(alloc, netlist, outer, &clocks)?;
     let targets = Targets::new(alloc, netlist.signals(), clocks)?;
-    add_cells(alloc, &mut made, &targets, netlist.cells())?;
+    add_cells(alloc, &mut made, &targets, outer, netlist.cells())?;
     add_buffers(alloc, &mut made, targets.count, &targets.clocks)?;
     Ok(made)
 }

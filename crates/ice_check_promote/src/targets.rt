@@ -1,9 +1,10 @@
 //! What the readers of each signal read where clocks have buffers.
-ghost use Rattle.std.specs.Prelude.{◌≡◌, ◌+◌, ◌<◌, ◌≤◌, ◌^◌, All, length, IfOk};
+ghost use Rattle.std.specs.Prelude.{◌≡◌, ◌+◌, ◌<◌, ◌≤◌, ◌^◌, None, All, length, slice_index_or, IfOk};
 ghost use Rattle.std.specs.List.{range_with_len};
+ghost use Rattle.ice_net.specs.Drivers.{is_signal};
 ghost use Rattle.ice_net.specs.Formed.{IsBelow, IsFormedCell};
-ghost use Rattle.ice_check_promote.specs.Filling.{AreReadAs, AreTargets};
-ghost use Rattle.ice_check_promote.specs.Promoted.{buffered, buffered_pin, buffered_first, buffered_cell};
+ghost use Rattle.ice_check_promote.specs.Filling.{AreReadAs, AreTargets, clocked_cell};
+ghost use Rattle.ice_check_promote.specs.Promoted.{buffered, buffered_pin, buffered_first, buffered_ins, is_outer, passes_out, passing_ins};
 
 use ice_base::{NoMemory, SignalNo};
 use ice_net::{Cell, CellKind, Signals};
@@ -43,6 +44,34 @@ fn put_buffers(table: &mut Vec<u32>, count: u32, clocks: &[u32])
     for place in (0..clocks.len()).rev() {
         table[clocks[place] as usize] = count + place as u32;
     }
+}
+
+// Whether a signal is the one of this number.
+fn is_signal(number: u32, pin: Option<SignalNo>) -> bool
+    ensures { result ≡ is_signal number pin }
+{
+    match pin {
+        Some(signal) => signal.0 == number,
+        None => false,
+    }
+}
+
+// Whether a signal is one of the outer clocks.
+fn is_outer(outer: &[SignalNo], pin: Option<SignalNo>) -> bool
+    ensures { result ≡ is_outer outer.now pin }
+{
+    outer.iter().any(|signal| is_signal(signal.0, pin))
+}
+
+// Whether a cover passes its one input on to an outer clock, by its outputs.
+fn passes_out(outer: &[SignalNo], table: u16, width: u8, outs: &[Option<SignalNo>]) -> bool
+    ensures { result ≡ passes_out outer.now table width outs.now }
+{
+    let out = match outs.get(0) {
+        Some(signal) => *signal,
+        None => None,
+    };
+    width == 1 && table == 2 && is_outer(outer, out)
 }
 
 impl Targets {
@@ -91,21 +120,44 @@ impl Targets {
         }
     }
 
-    /// The cell, of which the clock input reads the buffer's signal where it is a flip-flop.
+    // Lets the clock input of a cell of this kind and with these outputs read the buffer's signal.
+    fn put_clock(
+        &self,
+        outer: &[SignalNo],
+        kind: CellKind,
+        outs: &[Option<SignalNo>],
+        ins: &mut Vec<Option<SignalNo>>,
+    )
+        requires targets { AreTargets self.now }
+        requires below { All (IsBelow self.now.count) ins.old.items }
+        ensures { ins.new.items ≡ passing_ins self.now.count self.now.clocks.items outer.now kind outs.now
+            (buffered_ins self.now.count self.now.clocks.items kind ins.old.items) }
+    {
+        match kind {
+            CellKind::Flop { .. } => self.put_first(ins),
+            CellKind::Cover { table, width } => {
+                if passes_out(outer, table, width, outs) {
+                    self.put_first(ins);
+                }
+            }
+            _ => {}
+        }
+    }
+
+    /// The cell, of which the clock input reads the buffer's signal where it is a flip-flop, or a cover that passes its input on to one
+    /// of these outer clocks.
     ///
     /// # Errors
     /// Want of memory alone.
-    pub fn cell(&self, alloc: Global, cell: &Cell) -> Result<Cell, NoMemory>
+    pub fn cell(&self, alloc: Global, outer: &[SignalNo], cell: &Cell) -> Result<Cell, NoMemory>
         requires targets { AreTargets self.now }
         requires formed { IsFormedCell self.now.count cell.now }
         ensures { IfOk result (λ made.
-            made ≡ buffered_cell self.now.count self.now.clocks.items cell.now) }
+            made ≡ clocked_cell self.now.count self.now.clocks.items outer.now cell.now) }
     {
         let mut ins = Vec::from_slice(alloc, cell.ins.as_slice())?;
         let outs = Vec::from_slice(alloc, cell.outs.as_slice())?;
-        if let CellKind::Flop { .. } = cell.kind {
-            self.put_first(&mut ins);
-        }
+        self.put_clock(outer, cell.kind, cell.outs.as_slice(), &mut ins);
         Ok(Cell {
             kind: cell.kind,
             line: cell.line,

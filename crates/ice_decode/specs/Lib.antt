@@ -16,11 +16,7 @@ pub mod Memories
 pub mod Tables
 pub mod GlobalNames
 pub mod Tiles
-pub mod ForeignTiles
-pub mod ForeignPlaces
-pub mod PadTiles
 pub mod Points
 pub mod Different
 pub mod Numberings
-pub mod Searched
 pub mod Laws

@@ -97,13 +97,9 @@ impl Circuit {
         &self.bits
     }
 
-    // The circuit of these bits.
-    pub(crate) fn of(
-        bits: Bits,
-        drivers: Vec<Driver>,
-        direct: [bool; 8],
-        order: Vec<Point>,
-    ) -> Circuit
+    /// The circuit of these bits, by what drives each wire, which globals have the level of a pad, and an order of evaluation. Takes no
+    /// memory.
+    pub fn of(bits: Bits, drivers: Vec<Driver>, direct: [bool; 8], order: Vec<Point>) -> Circuit
         ensures { result ≡ record {
           configuration = bits;
           drivers = drivers.items;

@@ -146,7 +146,7 @@ impl Numbering {
     }
 
     /// The points of these numbers.
-    pub(crate) fn points_at(&self, alloc: Global, numbers: &[usize]) -> Result<Vec<Point>, NoMemory>
+    pub fn points_at(&self, alloc: Global, numbers: &[usize]) -> Result<Vec<Point>, NoMemory>
         requires { All (λ n. n < length self.now) numbers.now }
         ensures { IfOk result (λ points.
             map (λ p. Some p) points.items ≡ map (slice_get self.now) numbers.now) }

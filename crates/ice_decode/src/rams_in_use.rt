@@ -104,7 +104,7 @@ fn leads_out(kind: Option<TileKind>, wire: u8) -> bool
 }
 
 /// Whether the name is that of an output of a block RAM in use.
-pub(crate) fn is_given(chip: &Chip, bits: &Bits, placed: &PlacedName) -> bool
+pub fn is_given(chip: &Chip, bits: &Bits, placed: &PlacedName) -> bool
     ensures { result ≡ is_given chip.now (bits_of bits.now) placed.now }
 {
     match ram_number(placed.name.as_bytes()) {

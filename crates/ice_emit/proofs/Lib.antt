@@ -9,3 +9,4 @@ mod Slotless
 mod Ready
 mod Meant
 mod ExtraBits
+mod RamContents

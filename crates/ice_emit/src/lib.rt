@@ -3,6 +3,7 @@
 
 mod arriving;
 mod clusters;
+mod contents;
 mod extras;
 mod links;
 mod owners;

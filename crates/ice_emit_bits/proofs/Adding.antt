@@ -20,7 +20,7 @@ none_or true m e = refl
 none_or false m e = sym e
 
 pub nothing_added : (parts : Parts) (k : Configuration) (more : Bits) → IsOf parts k → ((t : TileAt) (b : BitAt) → more t b ≡ false) → Adds parts k k more
-nothing_added parts k more form none = record { form = form; extras = refl; bits = λ t b. none_or (bits_of k t b) (more t b) (none t b) }
+nothing_added parts k more form none = record { form = form; extras = refl; contents = refl; bits = λ t b. none_or (bits_of k t b) (more t b) (none t b) }
 
 pub or_assoc : (a b x : Bool) → ((a || b) || x) ≡ (a || (b || x))
 or_assoc true b x = refl
@@ -30,26 +30,28 @@ pub both_added : (parts : Parts) (old mid new : Configuration) (one other : Bits
 both_added parts old mid new one other first second = record {
   form = second.form;
   extras = second.extras ∙ first.extras;
+  contents = second.contents ∙ first.contents;
   bits = λ t b. second.bits t b ∙ ap (λ x. x || other t b) (first.bits t b) ∙ or_assoc (bits_of old t b) (one t b) (other t b);
 }
 
 pub added_as : (parts : Parts) (old new : Configuration) (one other : Bits) → ((t : TileAt) (b : BitAt) → one t b ≡ other t b) → Adds parts old new one → Adds parts old new other
-added_as parts old new one other same adds = record { form = adds.form; extras = adds.extras; bits = λ t b. adds.bits t b ∙ ap (λ x. bits_of old t b || x) (same t b) }
+added_as parts old new one other same adds = record { form = adds.form; extras = adds.extras; contents = adds.contents; bits = λ t b. adds.bits t b ∙ ap (λ x. bits_of old t b || x) (same t b) }
 
 -- ---- what is left to be set
 pub all_left : (parts : Parts) (k : Configuration) (whole : Bits) → IsOf parts k → AreLeft parts k k whole whole
-all_left parts k whole form = record { form = form; extras = refl; bits = λ t b. refl }
+all_left parts k whole form = record { form = form; extras = refl; contents = refl; bits = λ t b. refl }
 
 pub fewer_left : (parts : Parts) (old mid new : Configuration) (whole rest one more : Bits) → AreLeft parts old mid whole rest → Adds parts mid new one → ((t : TileAt) (b : BitAt) → rest t b ≡ (one t b || more t b))
     → AreLeft parts old new whole more
 fewer_left parts old mid new whole rest one more left adds split = record {
   form = adds.form;
   extras = adds.extras ∙ left.extras;
+  contents = adds.contents ∙ left.contents;
   bits = λ t b. ap (λ x. x || more t b) (adds.bits t b) ∙ or_assoc (bits_of mid t b) (one t b) (more t b) ∙ ap (λ x. bits_of mid t b || x) (sym (split t b)) ∙ left.bits t b;
 }
 
 pub none_left : (parts : Parts) (old now : Configuration) (whole rest : Bits) → AreLeft parts old now whole rest → ((t : TileAt) (b : BitAt) → rest t b ≡ false) → Adds parts old now whole
-none_left parts old now whole rest left none = record { form = left.form; extras = left.extras; bits = λ t b. none_or (bits_of now t b) (rest t b) (none t b) ∙ left.bits t b }
+none_left parts old now whole rest left none = record { form = left.form; extras = left.extras; contents = left.contents; bits = λ t b. none_or (bits_of now t b) (rest t b) (none t b) ∙ left.bits t b }
 
 -- ---- one bit
 with_one : (s p o v : Bool) → v ≡ true → cond (s && p) true o ≡ (o || (s && (p && v)))
@@ -65,6 +67,7 @@ pub one_added : (parts : Parts) (old new : Configuration) (tile : TileAt) (place
 one_added parts old new tile place value is form writes = record {
   form = writes.form parts form;
   extras = writes.extras;
+  contents = writes.contents;
   bits = λ t b. writes.bits t b ∙ with_one (same_tile tile t) (same_place place b) (bits_of old t b) value is;
 }
 
@@ -128,6 +131,7 @@ pub values_next : (parts : Parts) (old mid new : Configuration) (tile : TileAt) 
 values_next parts old mid new tile ps vs k p v whole lt same at val left adds = record {
   form = adds.form;
   extras = adds.extras ∙ left.extras;
+  contents = adds.contents ∙ left.contents;
   bits = λ t b. value_more ps vs k b p v (bits_of mid t b) (bits_of new t b) (same_tile tile t) (bits_of old t b || whole t b) lt same at val (adds.bits t b) (left.bits t b);
 }
 
@@ -136,6 +140,7 @@ pub values_done : (parts : Parts) (old now : Configuration) (tile : TileAt) (ps 
 values_done parts old now tile ps vs k whole e left = record {
   form = left.form;
   extras = left.extras;
+  contents = left.contents;
   bits = λ t b. values_all ps vs k b (bits_of now t b) (same_tile tile t) (bits_of old t b || whole t b) e (left.bits t b);
 }
 

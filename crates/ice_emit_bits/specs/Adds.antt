@@ -10,16 +10,18 @@ use Rattle.ice_bits_rows.specs.Sound.{value_at}
 use Rattle.ice_emit_rows_laws.specs.Settings.{Setting}
 use Rattle.ice_emit_rows_laws.specs.Wanted.{sets_of}
 
--- these bits are set, and no other bit changes
+-- these bits are set, and no other bit changes, no extra bit, and no contents of block RAMs
 pub record Adds (parts : Parts) (old new : Configuration) (more : Bits) : Type 0 where
   pub form : IsOf parts new
   pub extras : new.extras ≡ old.extras
+  pub contents : new.contents ≡ old.contents
   pub bits : (t : TileAt) (b : BitAt) → bits_of new t b ≡ (bits_of old t b || more t b)
 
 -- Of the bits that are to be set, these are left: with them the bits are what is wanted in the end.
 pub record AreLeft (parts : Parts) (old now : Configuration) (whole rest : Bits) : Type 0 where
   pub form : IsOf parts now
   pub extras : now.extras ≡ old.extras
+  pub contents : now.contents ≡ old.contents
   pub bits : (t : TileAt) (b : BitAt) → (bits_of now t b || rest t b) ≡ (bits_of old t b || whole t b)
 
 -- two lots of bits

@@ -1,5 +1,5 @@
 -- The bits of functions that are set.
-use Rattle.std.specs.Prelude.{ℕ, zero, suc, ◌&&◌, not, Bool, false, Option, None, Some, List, [], ◌∷◌, ◌++◌, flat_map, slice_get, slice_index_or, if◌then◌else◌}
+use Rattle.std.specs.Prelude.{ℕ, zero, suc, ◌&&◌, not, Bool, false, Option, None, Some, List, [], ◌∷◌, ◌++◌, flat_map, nat_lt, slice_get, slice_index_or, if◌then◌else◌}
 use Rattle.std.specs.List.{range_with_len, list_any}
 use Rattle.std.specs.Option.{option_map_or}
 use Rattle.ice_base.specs.declared.number.TileAt.{TileAt}
@@ -24,13 +24,12 @@ use Rattle.ice_cells.specs.declared.design.Run.{Run}
 use Rattle.ice_emit_rows_laws.specs.Settings.{Setting}
 use Rattle.ice_place_defs.specs.Plan.{Plan}
 use Rattle.ice_place_defs.specs.Loads.{slots_give}
+use Rattle.ice_chip_rams.specs.Sites.{sites}
+use Rattle.ice_ram.specs.Ram.{Kept}
+use Rattle.ice_ram.specs.declared.setup.Setup.{Setup}
 use Rattle.ice_emit_defs.specs.Arrivals.{Held, written_table}
-
-abbrev pub setting : TileAt → List ℕ → ℕ → Setting
-setting t name k = record { tile = t; name = name; number = k }
-
-abbrev pub setting_if : Bool → TileAt → List ℕ → ℕ → List Setting
-setting_if b t name k = if b then setting t name k ∷ [] else []
+use Rattle.ice_emit_defs.specs.Rams.{site_settings}
+pub use Rattle.ice_emit_defs.specs.SettingLists.{setting, setting_if}
 
 -- ---- cells: the table's entries, whether the carry and the flip-flop are in use, and how the flip-flop is set or reset
 abbrev pub table_settings : TileAt → List ℕ → ℕ → List Setting
@@ -73,7 +72,7 @@ clusters_settings parts held d [] clusters = []
 clusters_settings parts held d (t ∷ at) [] = []
 clusters_settings parts held d (t ∷ at) (cluster ∷ clusters) = cluster_settings parts held d t cluster ++ clusters_settings parts held d at clusters
 
--- ---- pads of ports: their types, and pull-ups that are off
+-- ---- pads of ports in IO tiles: their types, and pull-ups that are off; a pin of a block RAM, whose number is 2 or more, has neither
 abbrev pub type_settings : Pad → ℕ → List Setting
 type_settings pad pin_type = flat_map (λ k. setting_if (table_bit pin_type k) pad.tile (pin_type_function pad.pio k) 0) (range_with_len 0 6)
 
@@ -84,7 +83,7 @@ abbrev pub pull_up_settings : Parts → Pad → Bool → List Setting
 pull_up_settings parts pad pullup = if pullup then [] else option_map_or off_setting (ieren_of parts pad) []
 
 abbrev pub port_settings : Parts → Pad → Bool → DesignPad → List Setting
-port_settings parts pad pullup wanted = type_settings pad wanted.pin_type ++ pull_up_settings parts pad pullup
+port_settings parts pad pullup wanted = if nat_lt pad.pio 2 then type_settings pad wanted.pin_type ++ pull_up_settings parts pad pullup else []
 
 abbrev pub ports_settings : Parts → List Pad → List Bool → List DesignPad → List Setting
 ports_settings parts [] pullups pads = []
@@ -119,8 +118,9 @@ global_settings parts t (Some n) = option_map_or (buffer_at t n) (colbuf_of part
 abbrev pub buffer_settings : Parts → Switch → List Setting
 buffer_settings parts s = global_settings parts s.tile (global_at s.tile (names_of parts s.source.0))
 
--- ---- all of them
-abbrev pub settings : Parts → Plan → List Bool → Held → List Switch → List Setting
-settings parts plan pullups held wanted =
+-- ---- all of them, beside those of block RAMs
+abbrev pub settings : Parts → Plan → List Bool → List (Setup × Kept) → Held → List Switch → List Setting
+settings parts plan pullups rams held wanted =
     clusters_settings parts held plan.design plan.at plan.clusters ++ ports_settings parts plan.ports pullups plan.design.pads
     ++ flat_map (enable_settings (enables_of parts) (read_pads plan.ports plan.design.pads)) (enables_of parts) ++ flat_map (buffer_settings parts) wanted
+    ++ site_settings (sites parts) rams

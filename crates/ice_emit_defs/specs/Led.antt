@@ -1,11 +1,15 @@
 -- How roots come to the pins that read them: by the rows that are turned on, from the root's wire to the pin's.
-use Rattle.std.specs.Prelude.{◌≡◌, ◌⊎◌, ℕ, ◌<◌, zero, suc, true, false, Option, None, Some, List, slice_index_or}
+use Rattle.std.specs.Prelude.{◌≡◌, ◌⊎◌, ℕ, ◌<◌, zero, suc, true, false, Option, None, Some, List, length, slice_index_or}
 use Rattle.ice_base.specs.declared.number.TileAt.{TileAt}
 use Rattle.ice_base.specs.declared.number.WireNo.{WireNo}
 use Rattle.ice_base_values.specs.Order.{At, Has}
 use Rattle.ice_chip.specs.Database.{Parts}
 use Rattle.ice_chip.specs.Lookups.{kind_at, wire_named, global_of}
-use Rattle.ice_chip.specs.Names.{input_name, pad_input_name, pad_output_name, output_enable_name}
+use Rattle.ice_chip.specs.Names.{input_name, pad_input_name, output_enable_name}
+use Rattle.ice_chip.specs.RamNames.{ram_name, is_clock_enable, is_read_out, pin_at}
+use Rattle.ice_chip_rams.specs.Sites.{sites}
+use Rattle.ice_chip_sockets.specs.Pins.{IsRamPin}
+use Rattle.ice_chip_sockets.specs.Sockets.{driven_name, has_ram_wire_in}
 use Rattle.ice_chip.specs.WireNames.{clock_name, clock_enable_name, set_reset_name, fabout_name, carry_out_name, first_carry_name}
 use Rattle.ice_chip.specs.declared.rows.Pad.{Pad}
 use Rattle.ice_chip.specs.declared.rows.TileKind.TheVariants.{Logic}
@@ -71,9 +75,14 @@ IsEntryLed parts plan wanted t (Some (r, suc k)) =
     (low : TileAt) × (below : Cluster) × IsOn plan low below × (below.run ≡ Some (r, k)) × IsLinked wanted (wire_named parts low (carry_out_name 7)) (wire_named parts t first_carry_name)
 
 -- ---- pads
+-- a pad of an IO tile, or a pin of a block RAM
+abbrev pub IsSocket : Parts → Pad → Type 0
+IsSocket parts pad = Has (pads parts) pad ⊎ IsRamPin parts (length (sites parts)) pad
+
 pub record IsPadLed (parts : Parts) (plan : Plan) (wanted : List Switch) (pad : Pad) (port : DesignPad) : Type 0 where
-  pub drive : IsLed parts plan wanted (wire_named parts pad.tile (pad_output_name pad.pio)) port.drive
-  pub enable : IsLed parts plan wanted (wire_named parts pad.tile (output_enable_name pad.pio)) port.enable
+  pub drive : IsLed parts plan wanted (wire_named parts pad.tile (driven_name pad.pio)) port.drive
+  -- a pin of a block RAM has no enable
+  pub enable : Has (pads parts) pad → IsLed parts plan wanted (wire_named parts pad.tile (output_enable_name pad.pio)) port.enable
 
 -- ---- where wanted rows come from
 -- the wire is led to from the wire of a root that is read
@@ -97,7 +106,9 @@ pub record AreLed (parts : Parts) (plan : Plan) (wanted : List Switch) (held : H
   pub free : (t : TileAt) (i c : ℕ) (cell : LogicCell) → StandsIn plan t i c cell → is_free cell ≡ true → IsFreeLed parts plan wanted held t i cell
   pub controls : (t : TileAt) (cluster : Cluster) (control : Control) → IsOn plan t cluster → cluster.control ≡ Some control → IsControlLed parts plan wanted t control
   pub entries : (t : TileAt) (cluster : Cluster) → IsOn plan t cluster → IsEntryLed parts plan wanted t cluster.run
-  pub ports : (k : ℕ) (pad : Pad) (port : DesignPad) → At plan.ports k pad → At plan.design.pads k port → Has (pads parts) pad → IsPadLed parts plan wanted pad port
+  pub ports : (k : ℕ) (pad : Pad) (port : DesignPad) → At plan.ports k pad → At plan.design.pads k port → IsSocket parts pad → IsPadLed parts plan wanted pad port
+  -- no row enters the enable of a clock of a block RAM
+  pub clock_enables : (t : TileAt) (n w : ℕ) → is_clock_enable n ≡ true → has_ram_wire_in n (kind_at parts t) ≡ true → wire_named parts t (ram_name n) ≡ Some w → IsBare wanted w
   pub feeds : (g n : ℕ) (root : Option Root) (t : TileAt) → At plan.globals g n → At plan.design.globals g root → is_direct plan g ≡ false → global_of parts n ≡ Some t
       → IsLed parts plan wanted (wire_named parts t fabout_name) root
   -- each wanted row leads on from a root, or is a link
@@ -105,3 +116,5 @@ pub record AreLed (parts : Parts) (plan : Plan) (wanted : List Switch) (held : H
   -- the input of a pad that a wanted row leaves is that of a port's pad that is read
   pub inputs : (s : Switch) (pad : Pad) → Has wanted s → Has (pads parts) pad → wire_named parts pad.tile (pad_input_name pad.pio) ≡ Some s.source.0
       → (k : ℕ) × (port : DesignPad) × At plan.ports k pad × At plan.design.pads k port × (port.reads ≡ true)
+  -- what a block RAM reads out and a wanted row leaves is read out of a port's pin
+  pub outputs : (s : Switch) (t : TileAt) (n : ℕ) → Has wanted s → is_read_out n ≡ true → wire_named parts t (ram_name n) ≡ Some s.source.0 → Has plan.ports (pin_at t n)

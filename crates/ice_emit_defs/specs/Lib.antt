@@ -7,3 +7,5 @@ pub mod Routed
 pub mod Led
 pub mod Set
 pub mod Realised
+pub mod SettingLists
+pub mod Rams

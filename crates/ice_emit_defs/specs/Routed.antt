@@ -21,14 +21,15 @@ abbrev pub pads_of : Plan → List Bool → PadsData
 pads_of plan pullups = record { ports = plan.ports; pullups = pullups; globals = plan.globals; direct = plan.direct }
 
 -- The design keeps to its form and has no loop. Its clusters stand on sites of the chip, its ports have pads of one of the chip's
--- packages, and its global buffers have globals.
+-- packages, or pins of its first block RAMs, and its global buffers have globals.
 pub record IsPlaced (parts : Parts) (rows : PackageRows) (plan : Plan) (pullups : List Bool) : Type 0 where
   pub formed : IsFormed plan.design
   pub values : HasValues plan.design
   pub clusters : IsClustering plan.design (listed plan)
   pub legal : IsLegalOn parts (chunks_of plan.clusters) plan.at
   pub «package» : Has parts.packages rows
-  pub pads : ArePads parts rows plan.design (pads_of plan pullups)
+  pub rams : ℕ
+  pub pads : ArePads parts rows rams plan.design (pads_of plan pullups)
 
 -- One tree for each net: it leads over usable rows from the net's root to one target of each of its sinks, on wires of the chip. No
 -- wire is in two trees.

@@ -23,7 +23,10 @@ use Rattle.ice_cells.specs.declared.cluster.Cluster.{Cluster}
 use Rattle.ice_cells.specs.declared.design.DesignPad.{DesignPad}
 use Rattle.ice_cells.specs.declared.design.Run.{Run}
 use Rattle.ice_place_defs.specs.Plan.{Plan}
+use Rattle.ice_ram.specs.Ram.{Kept}
+use Rattle.ice_ram.specs.declared.setup.Setup.{Setup}
 use Rattle.ice_emit_defs.specs.Arrivals.{Held, written_table}
+use Rattle.ice_emit_defs.specs.Rams.{AreRamsSet}
 use Rattle.ice_emit_defs.specs.Slots.{IsOn, StandsIn}
 
 -- a flip-flop that is neither set nor reset is read as one that is reset at the clock's edge
@@ -51,7 +54,7 @@ pub record IsTileSet (parts : Parts) (plan : Plan) (bits : Bits) (t : TileAt) (c
   pub edge : (control : Control) → cluster.control ≡ Some control → set_at parts bits t falling_clock_function 0 ≡ control.falling
   pub entry : (r : ℕ) (run : Run) → cluster.run ≡ Some (r, zero) → At plan.design.runs r run → set_at parts bits t carry_set_function 0 ≡ run.set
 
-pub record AreSet (parts : Parts) (plan : Plan) (wanted : List Switch) (held : Held) (bits : Bits) : Type 0 where
+pub record AreSet (parts : Parts) (plan : Plan) (rams : List (Setup × Kept)) (wanted : List Switch) (held : Held) (bits : Bits) : Type 0 where
   pub cells : (t : TileAt) (i c : ℕ) (cell : LogicCell) → StandsIn plan t i c cell → IsCellSet parts bits held t i cell
   pub free : (t : TileAt) (i : ℕ) → i < 8 → ((c : ℕ) (cell : LogicCell) → StandsIn plan t i c cell → ⊥) → IsFreeSlot parts bits t i
   pub tiles : (t : TileAt) (cluster : Cluster) → IsOn plan t cluster → IsTileSet parts plan bits t cluster
@@ -64,5 +67,7 @@ pub record AreSet (parts : Parts) (plan : Plan) (wanted : List Switch) (held : H
   pub enabled : (k : ℕ) (pad : Pad) (port : DesignPad) → At plan.ports k pad → At plan.design.pads k port → port.reads ≡ true → is_enabled parts bits pad ≡ true
   pub disabled : (row : Pad × Pad) → Has (enables_of parts) row → set_at parts bits row.1.tile (input_enable_function row.1.pio) 0 ≡ true
       → (k : ℕ) (port : DesignPad) → At plan.ports k row.0 → At plan.design.pads k port → port.reads ≡ false
-  -- no bit is set of a function of a PLL or of a pair of pads
+  -- no bit is set of a function of a PLL, of a pair of pads or of a cascade of block RAMs
   pub own : foreign_function parts bits ≡ None
+  -- block RAMs
+  pub rams_set : AreRamsSet parts rams bits

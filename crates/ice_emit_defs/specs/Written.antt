@@ -9,6 +9,9 @@ use Rattle.ice_chip.specs.Lookups.{padin_of}
 use Rattle.ice_decode.specs.declared.driver.Switch.{Switch}
 use Rattle.ice_bits.specs.Configuration.{Configuration, Bits, bits_of}
 use Rattle.ice_bits.specs.Grids.{IsOf}
+use Rattle.ice_chip_rams.specs.Sites.{sites}
+use Rattle.ice_ram.specs.Ram.{Kept}
+use Rattle.ice_ram.specs.declared.setup.Setup.{Setup}
 use Rattle.ice_emit_rows_laws.specs.Wanted.{set_bits}
 use Rattle.ice_emit_rows_laws.specs.Settings.{function_bits}
 use Rattle.ice_pads.specs.Globals.{numbers}
@@ -18,6 +21,7 @@ use Rattle.ice_graph.specs.Leading.{Route}
 use Rattle.ice_emit_defs.specs.Arrivals.{Held}
 use Rattle.ice_emit_defs.specs.Links.{wanted}
 use Rattle.ice_emit_defs.specs.Functions.{settings}
+use Rattle.ice_emit_defs.specs.Rams.{site_contents}
 
 abbrev pub starts_at : List WireNo → ℕ → Bool
 starts_at [] w = false
@@ -43,9 +47,9 @@ abbrev pub wanted_rows : Parts → Plan → List Route → List Switch
 wanted_rows parts plan routes = wanted parts plan (map route_rows routes)
 
 -- the bits that are set, of rows and of functions, and no others
-abbrev pub written_bits : Parts → Plan → List Bool → List Route → Bits
-written_bits parts plan pullups routes =
-    set_bits parts (wanted_rows parts plan routes) (function_bits parts (settings parts plan pullups (held_by parts plan routes) (wanted_rows parts plan routes)))
+abbrev pub written_bits : Parts → Plan → List Bool → List (Setup × Kept) → List Route → Bits
+written_bits parts plan pullups rams routes =
+    set_bits parts (wanted_rows parts plan routes) (function_bits parts (settings parts plan pullups rams (held_by parts plan routes) (wanted_rows parts plan routes)))
 
 -- a direct global buffer has the global
 abbrev pub takes_direct : List ℕ → List Bool → ℕ → Bool
@@ -61,7 +65,8 @@ extras_among parts globals direct ns = filter_map (padin_of parts) (filter (take
 abbrev pub plan_extras : Parts → Plan → List (ℕ × ℕ × ℕ)
 plan_extras parts plan = extras_among parts plan.globals plan.direct numbers
 
-pub record IsWritten (parts : Parts) (plan : Plan) (pullups : List Bool) (routes : List Route) (k : Configuration) : Type 0 where
+pub record IsWritten (parts : Parts) (plan : Plan) (pullups : List Bool) (rams : List (Setup × Kept)) (routes : List Route) (k : Configuration) : Type 0 where
   pub form : IsOf parts k
   pub extras : k.extras ≡ plan_extras parts plan
-  pub bits : (t : TileAt) (b : BitAt) → bits_of k t b ≡ written_bits parts plan pullups routes t b
+  pub bits : (t : TileAt) (b : BitAt) → bits_of k t b ≡ written_bits parts plan pullups rams routes t b
+  pub contents : k.contents ≡ site_contents (sites parts) rams

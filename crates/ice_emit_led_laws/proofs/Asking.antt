@@ -1,6 +1,7 @@
 -- What reads at a pin, by the pin.
-use Rattle.std.proofs.Common.{◌≡◌, ◌⊎◌, ℕ, true, false, Option, None, Some, inl, inr, refl, sym, ap, ◌∙◌}
-use Rattle.std.specs.Prelude.{slice_index_or}
+use Rattle.std.proofs.Common.{◌≡◌, ◌⊎◌, ℕ, ◌+◌, ◌-◌, Bool, true, false, Option, None, Some, inl, inr, refl, sym, ap, ◌∙◌, arith}
+use Rattle.std.specs.Prelude.{nat_lt, slice_index_or, if◌then◌else◌}
+use Rattle.std.proofs.lemmas.Bool.{ltb-false}
 use Rattle.std.proofs.lemmas.Option.{same_Some}
 use Rattle.ice_base.specs.declared.number.TileAt.{TileAt}
 use Rattle.ice_base_values.specs.Order.{At}
@@ -29,8 +30,14 @@ pin_of wires.ClockEnable = Some Enable
 pin_of wires.SetReset = Some SetReset
 pin_of wires.Fabout = Some Feed
 pin_of (wires.PadOutput pio) = Some (Drive pio)
+pin_of (wires.Ram n) = Some (Drive (n + 2))
 pin_of (wires.OutputEnable pio) = Some (DriveEnable pio)
 pin_of wire = None
+
+drive_pin : (pio : ℕ) (b : Bool) → nat_lt pio 2 ≡ b → pin_of (if b then wires.PadOutput pio else wires.Ram (pio - 2)) ≡ Some (Drive pio)
+unfolding pin_of
+drive_pin pio true e = refl
+drive_pin pio false e = let high = ltb-false pio 2 e in let number : pio - 2 + 2 ≡ pio = omega (arith, high) in ap (λ (n : ℕ). Some (Drive n)) number
 
 pin_is : (pin : Pin) → pin_of (wire_of pin) ≡ Some pin
 unfolding pin_of
@@ -39,7 +46,7 @@ pin_is Clock = refl
 pin_is Enable = refl
 pin_is SetReset = refl
 pin_is Feed = refl
-pin_is (Drive pio) = refl
+pin_is (Drive pio) = drive_pin pio (nat_lt pio 2) refl
 pin_is (DriveEnable pio) = refl
 
 pub same_pin : (a b : Pin) → wire_of a ≡ wire_of b → a ≡ b

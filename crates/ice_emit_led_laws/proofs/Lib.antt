@@ -1,5 +1,7 @@
 pub mod Pins
 pub mod Lists
+mod IoTiles
+pub mod Sockets
 pub mod Places
 pub mod Controls
 pub mod Ends
@@ -12,7 +14,6 @@ pub mod Linked
 pub mod Wanted
 pub mod Rows
 mod Targets
-mod IoTiles
 mod Ending
 mod Sinks
 mod Apart

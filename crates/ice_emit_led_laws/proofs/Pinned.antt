@@ -14,6 +14,8 @@ use Rattle.ice_chip.specs.WireNames.{fabout_name}
 use Rattle.ice_chip.specs.declared.rows.Pad.{Pad}
 use Rattle.ice_chip.specs.declared.rows.TileKind.TheVariants.{Io, Logic}
 use Rattle.ice_chip_names.specs.declared.wire_names.TileWire.TheVariants as wires
+use Rattle.ice_chip_sockets.specs.Sockets.{driven_wire, has_io_wire}
+use Rattle.ice_chip_sockets.proofs.SocketWires.{io_wire}
 use Rattle.ice_decode.specs.declared.driver.Switch.{Switch}
 use Rattle.ice_decode.specs.Pads.{pads}
 use Rattle.ice_cells.specs.declared.cell.Control.{Control}
@@ -21,13 +23,12 @@ use Rattle.ice_cells.specs.declared.cell.LogicCell.{LogicCell}
 use Rattle.ice_cells.specs.declared.cluster.Cluster.{Cluster}
 use Rattle.ice_cells.specs.declared.design.DesignPad.{DesignPad}
 use Rattle.ice_cells.specs.declared.root.Root.{Root}
-use Rattle.ice_pads.specs.PadWires.{has_io_wire}
 use Rattle.ice_place_defs.specs.Plan.{Plan, is_direct}
 use Rattle.ice_place_defs.specs.Loads.{Pin, Input, Clock, Enable, SetReset, Feed, Drive, DriveEnable, pin_name}
 use Rattle.ice_emit_nets.specs.Ends.{End, wire_no, pin_wires, is_free, inputs_of, ends}
 use Rattle.ice_graph.specs.Leading.{Route}
 use Rattle.ice_emit_defs.specs.Arrivals.{arrival}
-use Rattle.ice_emit_defs.specs.Led.{IsLed, IsFreeLed, IsControlLed, IsPadLed, IsLink}
+use Rattle.ice_emit_defs.specs.Led.{IsLed, IsFreeLed, IsControlLed, IsPadLed, IsSocket, IsLink}
 use Rattle.ice_emit_defs.specs.Routed.{AreTrees}
 use Rattle.ice_emit_defs.specs.Slots.{IsOn, StandsIn}
 use Rattle.ice_emit_defs.specs.Written.{wanted_rows, held_by}
@@ -36,10 +37,11 @@ use Rattle.ice_emit_led_laws.specs.Trees.{IsOnChip, IsTreeOf, IsTreeRow}
 use Rattle.ice_emit_led_laws.proofs.Pins.{inputs_same, input_named}
 use Rattle.ice_emit_led_laws.proofs.Places.{logic_tile, one_cluster, one_cell, slot_below, pio_below}
 use Rattle.ice_emit_led_laws.proofs.Ends.{each_end, input_target}
-use Rattle.ice_emit_led_laws.proofs.Roots.{io_wire}
+use Rattle.ice_emit_led_laws.proofs.Sockets.{driven_other, IsSocketInput, IsSocketOutput, socket_pin}
 use Rattle.ice_emit_led_laws.proofs.Reading.{reads_input}
 use Rattle.ice_emit_led_laws.proofs.Trees.{end_has_tree, tree_held, one_tree, tree_led, tree_input, tree_joins, tree_once}
 use Rattle.ice_emit_led_laws.proofs.Wanted.{wanted_is}
+use Rattle.ice_emit_led_laws.proofs.Rows.{out_bare}
 use Rattle.ice_emit_led_laws.specs.PinsLed.{ArePinsLed}
 use Rattle.ice_emit_led_laws.proofs.Targets.{wire_named_of, inputs_have, arrival_held, held_arrives}
 use Rattle.ice_emit_led_laws.proofs.Ending.{drive_end, drive_enable_end, feed_end, fixed_end, free_end_is, clock_end, enable_end, reset_end}
@@ -139,7 +141,7 @@ module _ (parts : Parts) (rows : PackageRows) (plan : Plan) (pullups : List Bool
           no_first Enable e = cc
           no_first SetReset e = cc
           no_first Feed e = cc
-          no_first (Drive pio) e = cc
+          no_first (Drive pio) e = driven_other pio wires.FirstCarry refl e
           no_first (DriveEnable pio) e = cc
 
       by : IsTreeRow parts plan routes s ⊎ IsLink parts plan s → Enters t pin w ⊎ IsChained t pin
@@ -312,10 +314,7 @@ module _ (parts : Parts) (rows : PackageRows) (plan : Plan) (pullups : List Bool
     controls_led = record { clock = clock_led control.clock refl; enable = enable_led control.enable refl; reset = reset_led control.reset refl }
 
   -- ---- pads
-  module _ (k : ℕ) (pad : Pad) (port : DesignPad) (a : At plan.ports k pad) (b : At plan.design.pads k port) (there : Has (pads parts) pad) where
-    io : kind_at parts pad.tile ≡ Some Io
-    io = io_pad parts on.lawful pad there
-
+  module _ (k : ℕ) (pad : Pad) (port : DesignPad) (a : At plan.ports k pad) (b : At plan.design.pads k port) (there : IsSocket parts pad) where
     -- a pad that reads nothing
     undriven : (of : DesignPad → Option Root) → of port ≡ None → (root : Root)
         → (j : ℕ) × (other : Pad) × (q : DesignPad) × At plan.ports j other × At plan.design.pads j q × (other.tile ≡ pad.tile) × (other.pio ≡ pad.pio) × (of q ≡ Some root) → ⊥
@@ -327,18 +326,20 @@ module _ (parts : Parts) (rows : PackageRows) (plan : Plan) (pullups : List Bool
 
     drive_led : (o : Option Root) → port.drive ≡ o → IsLed parts plan wanted (wire_named parts pad.tile (pin_name (Drive pad.pio))) o
     drive_led (Some root) e = led_end pad.tile (Drive pad.pio) root (drive_end parts plan k pad port root a b e)
-    drive_led None e =
-        bare_pin pad.tile (Drive pad.pio) (λ w named. record { kind = Io; kind_is = io; within = pio_below parts rows plan pullups on k pad a; found = named; reads = refl }) (undriven (λ (x : DesignPad). x.drive) e)
-        (no_chain pad.tile (Drive pad.pio) (λ i f. let g : Drive pad.pio ≡ Input i 3 = f in cc))
+    drive_led None e = by (socket_pin parts on.lawful pad there)
+      where
+        by : IsSocketInput parts pad ⊎ IsSocketOutput parts pad → IsLed parts plan wanted (wire_named parts pad.tile (pin_name (Drive pad.pio))) None
+        by (inl input) = bare_pin pad.tile (Drive pad.pio) input (undriven (λ (x : DesignPad). x.drive) e) (no_chain pad.tile (Drive pad.pio) (λ i f. let g : Drive pad.pio ≡ Input i 3 = f in cc))
+        by (inr output) = λ w named. out_bare parts rows plan pullups on routes trees pad.tile (driven_wire pad.pio) w (output w named)
 
-    drive_enable_led : (o : Option Root) → port.enable ≡ o → IsLed parts plan wanted (wire_named parts pad.tile (pin_name (DriveEnable pad.pio))) o
-    drive_enable_led (Some root) e = led_end pad.tile (DriveEnable pad.pio) root (drive_enable_end parts plan k pad port root a b e)
-    drive_enable_led None e =
-        bare_pin pad.tile (DriveEnable pad.pio) (λ w named. record { kind = Io; kind_is = io; within = pio_below parts rows plan pullups on k pad a; found = named; reads = refl }) (undriven (λ (x : DesignPad). x.enable) e)
+    drive_enable_led : kind_at parts pad.tile ≡ Some Io → (o : Option Root) → port.enable ≡ o → IsLed parts plan wanted (wire_named parts pad.tile (pin_name (DriveEnable pad.pio))) o
+    drive_enable_led io (Some root) e = led_end pad.tile (DriveEnable pad.pio) root (drive_enable_end parts plan k pad port root a b e)
+    drive_enable_led io None e =
+        bare_pin pad.tile (DriveEnable pad.pio) (λ w named. record { kind = Io; kind_is = io; within = pio_below parts rows plan pullups on k pad a io; found = named; reads = refl }) (undriven (λ (x : DesignPad). x.enable) e)
         (no_chain pad.tile (DriveEnable pad.pio) (λ i f. let g : DriveEnable pad.pio ≡ Input i 3 = f in cc))
 
     port_led : IsPadLed parts plan wanted pad port
-    port_led = record { drive = drive_led port.drive refl; enable = drive_enable_led port.enable refl }
+    port_led = record { drive = drive_led port.drive refl; enable = λ known. drive_enable_led (io_pad parts on.lawful pad known).0 port.enable refl }
 
   -- ---- global buffers
   feed_led : (g n : ℕ) (root : Option Root) (t : TileAt) → At plan.globals g n → At plan.design.globals g root → is_direct plan g ≡ false → global_of parts n ≡ Some t

@@ -19,6 +19,7 @@ use Rattle.ice_chip.specs.declared.rows.Pad.{Pad}
 use Rattle.ice_chip.specs.declared.rows.TileKind.{TileKind}
 use Rattle.ice_chip.specs.declared.rows.TileKind.TheVariants.{Io, Logic, RamBottom, RamTop}
 use Rattle.ice_chip.proofs.Keys.{pad_same}
+use Rattle.ice_chip_sockets.specs.Pins.{IsRamPin}
 use Rattle.ice_cells.specs.declared.cell.LogicCell.{LogicCell}
 use Rattle.ice_cells.specs.declared.cluster.Cluster.{Cluster}
 use Rattle.ice_sites.specs.Site.{is_logic, all_below, has_cell, has_chain, has_controls, has_entry, is_site}
@@ -26,6 +27,7 @@ use Rattle.ice_sites.specs.Legal.{tile_at}
 use Rattle.ice_place_defs.specs.Plan.{Plan}
 use Rattle.ice_emit_defs.specs.Slots.{IsOn, StandsIn}
 use Rattle.ice_emit_led_laws.specs.Trees.{IsOnChip}
+use Rattle.ice_emit_led_laws.proofs.Sockets.{pin_elsewhere}
 
 -- ---- sites
 last_or_less : (k n : ℕ) → k < suc n → (k ≡ n) ⊎ (k < n)
@@ -130,10 +132,10 @@ module _ (parts : Parts) (rows : PackageRows) (plan : Plan) (pullups : List Bool
       (same, At_same plan.design.cells d a b (subst (λ (n : ℕ). At plan.design.cells n a) same p.cell_is) q.cell_is)
 
   -- ---- the pads of a package
-  pub pio_below : (k : ℕ) (pad : Pad) → At plan.ports k pad → pad.pio < 2
-  pio_below k pad at =
+  package_pad : (pad : Pad) → list_any (same_pad pad) rows.pads ≡ true → pad.pio < 2
+  package_pad pad bonded =
       let is = Has_all (IsPackage parts.width parts.height) parts.packages rows on.read.package_forms on.placed.«package» in
-      let any = any_inserted (same_pad pad) [] (map pin_pad rows.pins) (ap (list_any (same_pad pad)) (sym is.pads) ∙ on.placed.pads.bonded k pad at) in
+      let any = any_inserted (same_pad pad) [] (map pin_pad rows.pins) (ap (list_any (same_pad pad)) (sym is.pads) ∙ bonded) in
       by is any
     where
       by : IsPackage parts.width parts.height rows → (false ≡ true) ⊎ (list_any (same_pad pad) (map pin_pad rows.pins) ≡ true) → pad.pio < 2
@@ -144,3 +146,11 @@ module _ (parts : Parts) (rows : PackageRows) (plan : Plan) (pullups : List Bool
           let one = Has_all (λ (x : List ℕ × Pad). IsPad parts.width parts.height x.1) rows.pins pin.0 is.pins pin.1 in
           let same : pad ≡ pin.0.1 = pad_same pad got.0 got.2 ∙ sym pin.2 in
           subst (λ (x : Pad). x.pio < 2) (sym same) one.pio
+
+  -- the pad of a port is one of two where it stands in an IO tile; pins of block RAMs stand in others
+  pub pio_below : (k : ℕ) (pad : Pad) → At plan.ports k pad → kind_at parts pad.tile ≡ Some Io → pad.pio < 2
+  pio_below k pad at io = by (on.placed.pads.bonded k pad at)
+    where
+      by : (list_any (same_pad pad) rows.pads ≡ true) ⊎ IsRamPin parts on.placed.rams pad → pad.pio < 2
+      by (inl bonded) = package_pad pad bonded
+      by (inr pin) = absurd (pin_elsewhere parts on.placed.rams pad pin io)

@@ -7,9 +7,10 @@ use Rattle.ice_base_values.specs.Order.{At, Has}
 use Rattle.ice_base_values.proofs.Members.{Has_any}
 use Rattle.ice_chip.specs.Database.{Parts, PackageRows}
 use Rattle.ice_chip.specs.Lookups.{kind_at, wire_named}
-use Rattle.ice_chip.specs.Names.{pad_output_name, output_enable_name}
+use Rattle.ice_chip.specs.Names.{output_enable_name}
 use Rattle.ice_chip.specs.WireNames.{fabout_name}
 use Rattle.ice_chip.specs.declared.rows.TileKind.TheVariants.{Io, Logic}
+use Rattle.ice_chip_sockets.proofs.SocketWires.{io_wire}
 use Rattle.ice_net.specs.declared.kind.Reset.{Reset}
 use Rattle.ice_decode.proofs.Members.{Has_left, Has_right}
 use Rattle.ice_cells.specs.Formed.{IsPad}
@@ -31,7 +32,8 @@ use Rattle.ice_emit_led_laws.proofs.Lists.{Has_flat}
 use Rattle.ice_emit_led_laws.proofs.Places.{logic_tile, slot_below, pio_below}
 use Rattle.ice_emit_led_laws.proofs.Controls.{control_told}
 use Rattle.ice_emit_led_laws.proofs.Ends.{each_end}
-use Rattle.ice_emit_led_laws.proofs.Roots.{root_self, io_wire}
+use Rattle.ice_emit_led_laws.proofs.Roots.{root_self}
+use Rattle.ice_emit_led_laws.proofs.Sockets.{driven_input}
 
 -- ---- pads that are driven
 pub drive_type : (port : DesignPad) (root : Root) → IsPad port → port.drive ≡ Some root → (port.pin_type ≡ 25) ⊎ (port.pin_type ≡ 41)
@@ -100,11 +102,10 @@ module _ (parts : Parts) (rows : PackageRows) (plan : Plan) (pullups : List Bool
   -- ---- the wires of pins that read
   pub reads_input : (t : TileAt) (pin : Pin) (root : Root) (w : ℕ) → Reads parts plan t pin root → wire_named parts t (pin_name pin) ≡ Some w → IsInput parts t (wire_of pin) w
   reads_input t pin root w (AtDrive k pad port r at at_port e) found =
-      let io = io_wire parts pad.tile (pad_output_name pad.pio) ((on.placed.pads.wires k port pad at_port at).output (drive_type port r (on.placed.formed.pads k port at_port) e)) in
-      record { kind = Io; kind_is = io.0; within = pio_below parts rows plan pullups on k pad at; found = found; reads = refl }
+      driven_input parts pad w ((on.placed.pads.wires k port pad at_port at).output (drive_type port r (on.placed.formed.pads k port at_port) e)) found
   reads_input t pin root w (AtDriveEnable k pad port r at at_port e) found =
       let io = io_wire parts pad.tile (output_enable_name pad.pio) ((on.placed.pads.wires k port pad at_port at).enable (enable_type port r (on.placed.formed.pads k port at_port) e)) in
-      record { kind = Io; kind_is = io.0; within = pio_below parts rows plan pullups on k pad at; found = found; reads = refl }
+      record { kind = Io; kind_is = io.0; within = pio_below parts rows plan pullups on k pad at io.0; found = found; reads = refl }
   reads_input t pin root w (AtFeed g n u r at at_root not_direct feeds) found =
       let fed = on.placed.pads.fed g n at not_direct in
       let io = io_wire parts fed.tile fabout_name fed.fabout in

@@ -12,16 +12,18 @@ use Rattle.ice_base.proofs.Options.{and_then_some}
 use Rattle.ice_base_values.specs.Order.{At, Has}
 use Rattle.ice_base_values.proofs.Members.{any_Has}
 use Rattle.ice_chip.specs.Database.{Parts, PackageRows}
-use Rattle.ice_chip.specs.Lookups.{kind_at, names_of, wire_named, placed_at}
-use Rattle.ice_chip.specs.Names.{is_global_name, input_name, pad_input_name}
+use Rattle.ice_chip.specs.Lookups.{names_of, wire_named, placed_at}
+use Rattle.ice_chip.specs.Names.{is_global_name, input_name}
 use Rattle.ice_chip.specs.PinNames.{is_output_of}
-use Rattle.ice_chip.specs.WireNames.{wire_name, output_name, global_name}
+use Rattle.ice_chip.specs.WireNames.{IsTileWire, wire_name, output_name, global_name}
 use Rattle.ice_chip.specs.declared.rows.Pad.{Pad}
 use Rattle.ice_chip.specs.declared.rows.TileKind.{TileKind}
 use Rattle.ice_chip.specs.declared.rows.TileKind.TheVariants.{Io, Logic, RamBottom, RamTop}
 use Rattle.ice_chip.specs.declared.placed.PlacedName.{PlacedName}
 use Rattle.ice_chip_names.specs.declared.wire_names.TileWire.{TileWire}
 use Rattle.ice_chip_names.specs.declared.wire_names.TileWire.TheVariants as named
+use Rattle.ice_chip_sockets.specs.Sockets.{given_wire, gives}
+use Rattle.ice_chip_sockets.proofs.SocketWires.{is_giving}
 use Rattle.ice_chip_laws.specs.Names.{HasName}
 use Rattle.ice_cells.specs.Formed.{IsRootOf}
 use Rattle.ice_cells.specs.Readings.{roots_read, is_read}
@@ -32,10 +34,8 @@ use Rattle.ice_cells.specs.declared.cluster.Cluster.{Cluster}
 use Rattle.ice_cells.specs.declared.root.Root.{Root}
 use Rattle.ice_cells.specs.declared.root.Root.TheVariants.{PadIn, CellOut, GlobalOut, CarryOut}
 use Rattle.ice_pads.specs.Globals.{has_name, global_wire}
-use Rattle.ice_pads.specs.PadWires.{is_io_tile, has_io_wire}
 use Rattle.ice_pads.specs.Constraints.{first_passing}
 use Rattle.ice_bits_rows.specs.WireNames.{has_output_name}
-use Rattle.ice_pads.proofs.IoKinds.{io_kind}
 use Rattle.ice_sites.specs.Site.{has_wire, has_cell}
 use Rattle.ice_place_defs.specs.Plan.{Plan, Slot, slot_in, in_tile, first_slot, slot_among, slot_of}
 use Rattle.ice_emit_nets.specs.Nets.{pad_wire, slot_wire, root_wire}
@@ -43,7 +43,8 @@ use Rattle.ice_emit_defs.specs.Slots.{StandsIn}
 use Rattle.ice_emit_led_laws.specs.Pins.{IsOutput}
 use Rattle.ice_emit_led_laws.specs.Trees.{IsOnChip}
 use Rattle.ice_emit_led_laws.proofs.Pins.{output_named, outputs_same}
-use Rattle.ice_emit_led_laws.proofs.Places.{on_site, logic_tile, one_cell, tile_of_cluster, slot_below, pio_below, some_of}
+use Rattle.ice_emit_led_laws.proofs.Places.{on_site, logic_tile, one_cell, tile_of_cluster, slot_below, some_of}
+use Rattle.ice_emit_led_laws.proofs.Sockets.{given_number, given_other, given_local, given_output}
 
 -- ---- roots
 pub root_same : (a b : Root) → same_root a b ≡ true → a ≡ b
@@ -144,12 +145,6 @@ passing_told test n (suc left) m e = by (test n) refl e (passing_told test (n + 
     by true is f later = ap test (sym (same_Some n m f)) ∙ is
     by false is f later = later f
 
--- an IO tile has the wire
-pub io_wire : (parts : Parts) (t : TileAt) (name : List ℕ) → has_io_wire parts t name ≡ true → (kind_at parts t ≡ Some Io) × ((w : ℕ) × (wire_named parts t name ≡ Some w))
-io_wire parts t name e =
-    let two = and_parts (is_io_tile parts t) (is_some (wire_named parts t name)) e in
-    (io_kind (kind_at parts t) two.0, some_of (wire_named parts t name) two.1)
-
 global_drives : (kind : TileKind) (n : ℕ) → is_output_of kind (named.Global n) ≡ true
 global_drives Io n = refl
 global_drives Logic n = refl
@@ -158,7 +153,7 @@ global_drives RamTop n = refl
 
 -- where the wire of a root has its name
 pub data IsRootPin (plan : Plan) : Root → TileAt → TileWire → Type 0 where
-  OfPad : (k : ℕ) (pad : Pad) → At plan.ports k pad → IsRootPin plan (PadIn k) pad.tile (named.PadInput pad.pio)
+  OfPad : (k : ℕ) (pad : Pad) → At plan.ports k pad → IsRootPin plan (PadIn k) pad.tile (given_wire pad.pio)
   OfCell : (t : TileAt) (i c : ℕ) (cell : LogicCell) → StandsIn plan t i c cell → IsRootPin plan (CellOut c) t (named.CellOutput i)
   OfGlobal : (g n : ℕ) (t : TileAt) → At plan.globals g n → IsRootPin plan (GlobalOut g) t (named.Global n)
 
@@ -166,9 +161,6 @@ pub data IsRootPin (plan : Plan) : Root → TileAt → TileWire → Type 0 where
 last_holds : (parts : Parts) (t : TileAt) (i : ℕ) → has_cell parts t i ≡ true → is_some (wire_named parts t (output_name i)) ≡ true
 last_holds parts t i e =
     (and_parts (has_wire parts t (input_name i 0) && has_wire parts t (input_name i 1) && has_wire parts t (input_name i 2) && has_wire parts t (input_name i 3)) (has_wire parts t (output_name i)) e).1
-
-pub pad_number : (j k : ℕ) → named.PadInput j ≡ named.PadInput k → j ≡ k
-pad_number j k e = cc e
 
 cell_number : (j k : ℕ) → named.CellOutput j ≡ named.CellOutput k → j ≡ k
 cell_number j k e = cc e
@@ -204,8 +196,8 @@ module _ (parts : Parts) (rows : PackageRows) (plan : Plan) (pullups : List Bool
   port_of : (k : ℕ) → k < length plan.design.pads → (pad : Pad) × At plan.ports k pad
   port_of k lt = at_below plan.ports k (let e : length plan.ports ≡ length plan.design.pads = on.placed.pads.ports in omega (arith, e, lt))
 
-  pad_has_input : (k : ℕ) (pad : Pad) → At plan.ports k pad → k < length plan.design.pads → is_read plan.design (PadIn k) ≡ true → has_io_wire parts pad.tile (pad_input_name pad.pio) ≡ true
-  pad_has_input k pad at lt read =
+  pad_gives : (k : ℕ) (pad : Pad) → At plan.ports k pad → k < length plan.design.pads → is_read plan.design (PadIn k) ≡ true → gives parts pad ≡ true
+  pad_gives k pad at lt read =
       let port = at_below plan.design.pads k lt in
       (on.placed.pads.wires k port.0 pad port.1 at).input (on.placed.formed.reads k port.0 port.1 ∙ read)
 
@@ -219,8 +211,7 @@ module _ (parts : Parts) (rows : PackageRows) (plan : Plan) (pullups : List Bool
   pub root_at : (root : Root) (v : ℕ) → is_read plan.design root ≡ true → root_wire parts plan root ≡ Some v → IsAt root v
   root_at (PadIn k) v read e =
       let got = and_then_some (pad_wire parts) (slice_get plan.ports k) v e in
-      let io = io_wire parts got.0.tile (pad_input_name got.0.pio) (pad_has_input k got.0 got.1 (root_of_design (PadIn k) read) read) in
-      (got.0.tile, named.PadInput got.0.pio, OfPad k got.0 got.1, record { kind = Io; kind_is = io.0; within = pio_below parts rows plan pullups on k got.0 got.1; found = got.2; drives = refl })
+      (got.0.tile, given_wire got.0.pio, OfPad k got.0 got.1, given_output parts got.0 v (pad_gives k got.0 got.1 (root_of_design (PadIn k) read) read) got.2)
   root_at (CellOut c) v read e =
       let got = and_then_some (slot_wire parts) (slot_of plan c) v e in
       let s = cell_stands c got.0 (root_of_design (CellOut c) read) got.1 in (
@@ -262,8 +253,8 @@ module _ (parts : Parts) (rows : PackageRows) (plan : Plan) (pullups : List Bool
   root_wired (PadIn k) read =
       let lt = root_of_design (PadIn k) read in
       let pad = port_of k lt in
-      let wire = (io_wire parts pad.0.tile (pad_input_name pad.0.pio) (pad_has_input k pad.0 pad.1 lt read)).1 in
-      (wire.0, ap (option_and_then (pad_wire parts)) pad.1 ∙ wire.1)
+      let is = is_giving parts pad.0 (pad_gives k pad.0 pad.1 lt read) in
+      (is.wire, ap (option_and_then (pad_wire parts)) pad.1 ∙ is.found)
   root_wired (CellOut c) read =
       let lt = root_of_design (CellOut c) read in
       let slot = cell_slot c lt in
@@ -279,19 +270,19 @@ module _ (parts : Parts) (rows : PackageRows) (plan : Plan) (pullups : List Bool
   root_wired (CarryOut c) read = absurd (root_of_design (CarryOut c) read)
 
   -- ---- different roots have different wires
-  one_root : (a b : Root) (t u : TileAt) (x y : TileWire) → IsRootPin plan a t x → IsRootPin plan b u y → x ≡ y → (t ≡ u) ⊎ (is_global_name (wire_name x) ≡ true) → a ≡ b
-  one_root a b t u x y (OfPad k pad at) (OfPad j other at_other) same tile = by tile
+  one_root : (a b : Root) (t u : TileAt) (x y : TileWire) → IsRootPin plan a t x → IsRootPin plan b u y → IsTileWire x → x ≡ y → (t ≡ u) ⊎ (is_global_name (wire_name x) ≡ true) → a ≡ b
+  one_root a b t u x y (OfPad k pad at) (OfPad j other at_other) within same tile = by tile
     where
-      by : (pad.tile ≡ other.tile) ⊎ (is_global_name (pad_input_name pad.pio) ≡ true) → PadIn k ≡ PadIn j
-      by (inr global) = absurd (true≢false (sym global))
+      by : (pad.tile ≡ other.tile) ⊎ (is_global_name (wire_name (given_wire pad.pio)) ≡ true) → PadIn k ≡ PadIn j
+      by (inr global) = absurd (true≢false (sym global ∙ given_local pad.pio within))
       by (inl tile) =
-          let pio : pad.pio ≡ other.pio = pad_number pad.pio other.pio same in
+          let pio : pad.pio ≡ other.pio = given_number pad.pio other.pio same in
           let pads : pad ≡ other = λ i. record { tile = tile i; pio = pio i } in
           ap PadIn (on.placed.pads.apart k j other (subst (λ (p : Pad). At plan.ports k p) pads at) at_other)
-  one_root a b t u x y (OfPad k pad at) (OfCell v i c cell s) same tile = absurd (cc same)
-  one_root a b t u x y (OfPad k pad at) (OfGlobal g n v at_other) same tile = absurd (cc same)
-  one_root a b t u x y (OfCell v i c cell s) (OfPad k pad at) same tile = absurd (cc same)
-  one_root a b t u x y (OfCell v i c cell s) (OfCell w j d other r) same tile = by tile
+  one_root a b t u x y (OfPad k pad at) (OfCell v i c cell s) within same tile = absurd (given_other pad.pio (named.CellOutput i) refl same)
+  one_root a b t u x y (OfPad k pad at) (OfGlobal g n v at_other) within same tile = absurd (given_other pad.pio (named.Global n) refl same)
+  one_root a b t u x y (OfCell v i c cell s) (OfPad k pad at) within same tile = absurd (given_other pad.pio (named.CellOutput i) refl (sym same))
+  one_root a b t u x y (OfCell v i c cell s) (OfCell w j d other r) within same tile = by tile
     where
       by : (v ≡ w) ⊎ (is_global_name (output_name i) ≡ true) → CellOut c ≡ CellOut d
       by (inr global) = absurd (true≢false (sym global))
@@ -299,10 +290,10 @@ module _ (parts : Parts) (rows : PackageRows) (plan : Plan) (pullups : List Bool
           let slot : i ≡ j = cell_number i j same in
           let moved = subst (λ (k : ℕ). StandsIn plan w k c cell) slot (subst (λ (z : TileAt). StandsIn plan z i c cell) tile s) in
           ap CellOut (one_cell parts rows plan pullups on w j c d cell other moved r).0
-  one_root a b t u x y (OfCell v i c cell s) (OfGlobal g n w at_other) same tile = absurd (cc same)
-  one_root a b t u x y (OfGlobal g n v at) (OfPad k pad at_other) same tile = absurd (cc same)
-  one_root a b t u x y (OfGlobal g n v at) (OfCell w i c cell s) same tile = absurd (cc same)
-  one_root a b t u x y (OfGlobal g n v at) (OfGlobal h m w at_other) same tile =
+  one_root a b t u x y (OfCell v i c cell s) (OfGlobal g n w at_other) within same tile = absurd (cc same)
+  one_root a b t u x y (OfGlobal g n v at) (OfPad k pad at_other) within same tile = absurd (given_other pad.pio (named.Global n) refl (sym same))
+  one_root a b t u x y (OfGlobal g n v at) (OfCell w i c cell s) within same tile = absurd (cc same)
+  one_root a b t u x y (OfGlobal g n v at) (OfGlobal h m w at_other) within same tile =
       let number : n ≡ m = global_number n m same in
       ap GlobalOut (on.placed.pads.single g h m (at ∙ ap Some number) at_other)
 
@@ -311,4 +302,4 @@ module _ (parts : Parts) (rows : PackageRows) (plan : Plan) (pullups : List Bool
       let p = root_at a v read_a wire_a in
       let q = root_at b v read_b wire_b in
       let one = outputs_same parts on.lawful on.names p.0 q.0 p.1 q.1 v p.3 q.3 in
-      one_root a b p.0 q.0 p.1 q.1 p.2 q.2 one.0 one.1
+      one_root a b p.0 q.0 p.1 q.1 p.2 q.2 p.3.within one.0 one.1

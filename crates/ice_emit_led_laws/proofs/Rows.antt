@@ -1,29 +1,37 @@
 -- Wanted rows enter different wires, and come from roots or are links.
-use Rattle.std.proofs.Common.{◌≡◌, ◌⊎◌, ℕ, zero, suc, ◌+◌, ◌<◌, Bool, true, not, Option, None, Some, List, inl, inr, refl, sym, ap, ◌∙◌, subst, true≢false, arith}
-use Rattle.std.specs.Prelude.{filter, slice_index_or}
-use Rattle.std.specs.Option.{option_and_then}
-use Rattle.std.proofs.lemmas.Bool.{and_parts}
+use Rattle.std.proofs.Common.{◌≡◌, ◌⊎◌, ℕ, zero, suc, ◌+◌, ◌<◌, ◌≤◌, Bool, true, false, not, Option, None, Some, List, inl, inr, refl, sym, ap, ◌∙◌, subst, true≢false, arith}
+use Rattle.std.specs.Prelude.{◌==◌, ◌&&◌, ◌||◌, slice_index_or}
+use Rattle.std.specs.Option.{option_and_then, option_map_or}
+use Rattle.std.proofs.lemmas.Bool.{and_parts, or_cases, ltb-true}
 use Rattle.std.proofs.lemmas.Option.{none-some, same_Some}
 use Rattle.ice_base.specs.declared.number.TileAt.{TileAt}
 use Rattle.ice_base.specs.declared.number.WireNo.{WireNo}
 use Rattle.ice_base.proofs.Booleans.{not_true}
+use Rattle.ice_base.proofs.Keys.{nat_same}
 use Rattle.ice_base_values.specs.Order.{At, Has}
-use Rattle.ice_base_values.proofs.Members.{filter_Has}
+use Rattle.ice_base_values.proofs.Members.{Has_any}
 use Rattle.ice_base_values.proofs.Places.{At_same}
 use Rattle.ice_chip.specs.Database.{Parts, PackageRows}
-use Rattle.ice_chip.specs.Lookups.{kind_at, wire_named, is_io_kind}
+use Rattle.ice_chip.specs.Lookups.{kind_at, names_of, wire_named, placed_at}
 use Rattle.ice_chip.specs.Names.{is_global_name, pad_input_name}
-use Rattle.ice_chip.specs.WireNames.{wire_name, carry_out_name, carry_in_name, first_carry_name}
-use Rattle.ice_chip.specs.declared.rows.TileLine.{TileLine}
+use Rattle.ice_chip.specs.PinNames.{is_input_of, is_input_name, is_output_of, is_output_name, is_memory_name}
+use Rattle.ice_chip.specs.RamNames.{ram_name, is_clock_enable, is_read_out, pin_at}
+use Rattle.ice_chip.specs.WireNames.{IsTileWire, wire_name, carry_out_name, carry_in_name, first_carry_name}
+use Rattle.ice_chip.specs.declared.placed.PlacedName.{PlacedName}
 use Rattle.ice_chip.specs.declared.rows.Pad.{Pad}
 use Rattle.ice_chip.specs.declared.rows.TileKind.{TileKind}
-use Rattle.ice_chip.specs.declared.rows.TileKind.TheVariants.{Io, Logic, RamBottom, RamTop}
+use Rattle.ice_chip.specs.declared.rows.TileKind.TheVariants.{Io, Logic}
+use Rattle.ice_chip_names.specs.RamNames.{ram_names}
+use Rattle.ice_chip_names.proofs.Prefixes.{number_passes}
 use Rattle.ice_chip_names.specs.declared.wire_names.TileWire.{TileWire}
 use Rattle.ice_chip_names.specs.declared.wire_names.TileWire.TheVariants as named
+use Rattle.ice_chip_sockets.specs.Sockets.{given_wire, has_ram_wire_in}
 use Rattle.ice_decode.specs.declared.driver.Switch.{Switch}
-use Rattle.ice_decode.specs.Pads.{pads, pads_in, is_io_tile}
+use Rattle.ice_decode.specs.Pads.{pads}
 use Rattle.ice_bits_rows.specs.FirstSound.{first_sound}
-use Rattle.ice_bits_rows.specs.WireNames.{has_output_name, has_closed_name}
+use Rattle.ice_bits_rows.specs.Bundles.{is_private}
+use Rattle.ice_bits_rows.specs.Sound.{is_alone}
+use Rattle.ice_bits_rows.specs.WireNames.{is_strange_in, has_strange_name, has_output_name, has_closed_name}
 use Rattle.ice_cells.specs.Readings.{is_read}
 use Rattle.ice_cells.specs.declared.cell.LogicCell.{LogicCell}
 use Rattle.ice_cells.specs.declared.cluster.Cluster.{Cluster}
@@ -44,9 +52,11 @@ use Rattle.ice_emit_led_laws.specs.Reads.{Reads, AtDrive, AtDriveEnable, AtFeed,
 use Rattle.ice_emit_led_laws.specs.RowsLed.{AreRowsLed}
 use Rattle.ice_emit_led_laws.specs.Trees.{IsOnChip, IsTreeRow}
 use Rattle.ice_emit_led_laws.proofs.Pins.{output_named, inputs_same, in_or_out, outputs_same}
-use Rattle.ice_emit_led_laws.proofs.Lists.{flat_Has}
+use Rattle.ice_emit_led_laws.proofs.IoTiles.{io_pad}
+use Rattle.ice_emit_led_laws.proofs.Sockets.{given_number, given_other, given_local, driven_other, driven_ram, low_given, pin_given, ram_reads, ram_drives, stands_read, stands_driven, ram_stands, driven_below}
+use Rattle.ice_emit_led_laws.proofs.Reading.{drive_type}
 use Rattle.ice_emit_led_laws.proofs.Places.{logic_tile, one_cluster, one_cell, slot_below}
-use Rattle.ice_emit_led_laws.proofs.Roots.{IsRootPin, OfPad, OfCell, OfGlobal, at_below, pad_number, root_at, root_of_design}
+use Rattle.ice_emit_led_laws.proofs.Roots.{IsRootPin, OfPad, OfCell, OfGlobal, at_below, root_at, root_of_design}
 use Rattle.ice_emit_led_laws.proofs.Trees.{tree_lead, one_tree, tree_led}
 use Rattle.ice_emit_led_laws.proofs.Linked.{IsCellLink, IsChunkLink, IsFirst, tile_below}
 use Rattle.ice_emit_led_laws.proofs.Wanted.{not_entered, link_of, wanted_told, cell_linked, chunk_linked, entered_pin, cell_input, chunk_input, link_input}
@@ -58,7 +68,7 @@ input_of_cell Clock i k e = absurd (cc e)
 input_of_cell Enable i k e = absurd (cc e)
 input_of_cell SetReset i k e = absurd (cc e)
 input_of_cell Feed i k e = absurd (cc e)
-input_of_cell (Drive pio) i k e = absurd (cc e)
+input_of_cell (Drive pio) i k e = absurd (driven_other pio (named.CellInput i k) refl e)
 input_of_cell (DriveEnable pio) i k e = absurd (cc e)
 
 never_first : (pin : Pin) → wire_of pin ≡ named.FirstCarry → ⊥
@@ -67,7 +77,7 @@ never_first Clock e = cc e
 never_first Enable e = cc e
 never_first SetReset e = cc e
 never_first Feed e = cc e
-never_first (Drive pio) e = cc e
+never_first (Drive pio) e = driven_other pio named.FirstCarry refl e
 never_first (DriveEnable pio) e = cc e
 
 same_input : (i k j l : ℕ) → Input i k ≡ Input j l → (i ≡ j) × (k ≡ l)
@@ -76,38 +86,53 @@ same_input i k j l e = (cc e, cc e)
 same_cell_input : (i k j l : ℕ) → named.CellInput i k ≡ named.CellInput j l → i ≡ j
 same_cell_input i k j l e = cc e
 
+cell_not_ram : (i k n : ℕ) → named.CellInput i k ≡ named.Ram n → ⊥
+cell_not_ram i k n e = cc e
+
+first_not_ram : (n : ℕ) → named.FirstCarry ≡ named.Ram n → ⊥
+first_not_ram n e = cc e
+
 cell_not_first : (i k : ℕ) → named.CellInput i k ≡ named.FirstCarry → ⊥
 cell_not_first i k e = cc e
-
-carry_not_pad : (i pio : ℕ) → named.CarryOut i ≡ named.PadInput pio → ⊥
-carry_not_pad i pio e = cc e
 
 first_or_later : (r q k : ℕ) → ◌≡◌ {A = ℕ × ℕ} (r, 0) (q, suc k) → ⊥
 first_or_later r q k e = let f : 0 ≡ suc k = ap (λ (p : ℕ × ℕ). p.1) e in omega (arith, f)
 
-io_of : (kind : TileKind) → is_io_kind kind ≡ true → kind ≡ Io
-io_of Io e = refl
-io_of Logic e = absurd (true≢false (sym e))
-io_of RamBottom e = absurd (true≢false (sym e))
-io_of RamTop e = absurd (true≢false (sym e))
+ram_number : (j k : ℕ) → named.Ram j ≡ named.Ram k → j ≡ k
+ram_number j k e = cc e
 
-two_pads : (t : TileAt) (pad : Pad) → Has (pads_in t) pad → (t ≡ pad.tile) × (pad.pio < 2)
-two_pads t pad (zero, at) = let same = same_Some (record { tile = t; pio = 0 }) pad at in (ap (λ (p : Pad). p.tile) same, subst (λ (p : Pad). p.pio < 2) same (omega arith))
-two_pads t pad (suc zero, at) = let same = same_Some (record { tile = t; pio = 1 }) pad at in (ap (λ (p : Pad). p.tile) same, subst (λ (p : Pad). p.pio < 2) same (omega arith))
-two_pads t pad (suc (suc n), at) = absurd (none-some pad at)
+-- a pin of a block RAM that reads is driven
+driven_of_ram : (pin : Pin) (n : ℕ) → wire_of pin ≡ named.Ram n → pin ≡ Drive (n + 2)
+driven_of_ram (Input i k) n e = absurd (cc e)
+driven_of_ram Clock n e = absurd (cc e)
+driven_of_ram Enable n e = absurd (cc e)
+driven_of_ram SetReset n e = absurd (cc e)
+driven_of_ram Feed n e = absurd (cc e)
+driven_of_ram (Drive pio) n e = ap Drive (driven_ram pio n e)
+driven_of_ram (DriveEnable pio) n e = absurd (cc e)
+
+same_drive : (j k : ℕ) → Drive j ≡ Drive k → j ≡ k
+same_drive j k e = cc e
+
+-- the enables of clocks are the last wires of a block RAM, which it reads
+enable_number : (n : ℕ) → is_clock_enable n ≡ true → (n ≡ 74) ⊎ (n ≡ 75)
+enable_number n e = elim (or_cases (n == 74) (n == 75) e) [ inl first ↦ inl (nat_same n 74 first) | inr last ↦ inr (nat_same n 75 last) ]
+
+enable_read : (n : ℕ) → (n ≡ 74) ⊎ (n ≡ 75) → (74 ≤ n) × (n < 76) × (is_read_out n ≡ false)
+enable_read n (inl e) = (omega (arith, e), omega (arith, e), ap is_read_out e)
+enable_read n (inr e) = (omega (arith, e), omega (arith, e), ap is_read_out e)
+
+-- what a block RAM reads out has the name of a memory
+read_out_name : (n : ℕ) → is_read_out n ≡ true → is_memory_name (ram_name n) ≡ true
+unfolding ram_names
+read_out_name n out = number_passes (λ k. is_memory_name (ram_name k)) n 16 (ltb-true n 16 out) refl
 
 module _ (parts : Parts) (rows : PackageRows) (plan : Plan) (pullups : List Bool) (on : IsOnChip parts rows plan pullups) where
-  -- the pads of a chip stand in IO tiles, two in each
-  pub pad_of_chip : (pad : Pad) → Has (pads parts) pad → (kind_at parts pad.tile ≡ Some Io) × (pad.pio < 2)
-  pad_of_chip pad has =
-      let got = flat_Has (λ (tile : TileAt × TileLine). pads_in tile.0) (filter is_io_tile parts.tiles) pad has in
-      let tile : TileAt × TileLine = got.1 in
-      let io = filter_Has is_io_tile parts.tiles tile (got.0, got.2) in
-      let two = two_pads tile.0 pad got.3 in
-      (ap (kind_at parts) (sym two.0) ∙ on.lawful.tiles.kinds tile.0 tile.1 io.0 ∙ ap (λ (k : TileKind). Some k) (io_of tile.1.kind io.1), two.1)
-
-  pad_output : (pad : Pad) (w : ℕ) → Has (pads parts) pad → wire_named parts pad.tile (pad_input_name pad.pio) ≡ Some w → IsOutput parts pad.tile (named.PadInput pad.pio) w
-  pad_output pad w has found = let io = pad_of_chip pad has in record { kind = Io; kind_is = io.0; within = io.1; found = found; drives = refl }
+  pad_output : (pad : Pad) (w : ℕ) → Has (pads parts) pad → wire_named parts pad.tile (pad_input_name pad.pio) ≡ Some w → IsOutput parts pad.tile (given_wire pad.pio) w
+  pad_output pad w has found =
+      let io = io_pad parts on.lawful pad has in
+      let out : IsOutput parts pad.tile (named.PadInput pad.pio) w = record { kind = Io; kind_is = io.0; within = io.1; found = found; drives = refl } in
+      subst (λ (wire : TileWire). IsOutput parts pad.tile wire w) (sym (low_given pad.pio io.1)) out
 
   carry_output : (t : TileAt) (i w : ℕ) → kind_at parts t ≡ Some Logic → i < 8 → wire_named parts t (carry_out_name i) ≡ Some w → IsOutput parts t (named.CarryOut i) w
   carry_output t i w logic lt found = record { kind = Logic; kind_is = logic; within = lt; found = found; drives = refl }
@@ -130,6 +155,20 @@ module _ (parts : Parts) (rows : PackageRows) (plan : Plan) (pullups : List Bool
   chained_reads t pin root i c cell (AtClock u cluster control r o e f) is s chained = cc is
   chained_reads t pin root i c cell (AtEnable u cluster control r o e f) is s chained = cc is
   chained_reads t pin root i c cell (AtReset u cluster control r o e f) is s chained = cc is
+
+  -- no pin is the enable of a clock of a block RAM
+  undriven : (t : TileAt) (pin : Pin) (root : Root) (n : ℕ) → 74 ≤ n → pin ≡ Drive (n + 2) → Reads parts plan t pin root → ⊥
+  undriven t pin root n high is (AtDrive k pad port r at at_port e) =
+      let driven = (on.placed.pads.wires k port pad at_port at).output (drive_type port r (on.placed.formed.pads k port at_port) e) in
+      let low = driven_below parts pad n driven (same_drive pad.pio (n + 2) is) in
+      omega (arith, low, high)
+  undriven t pin root n high is (AtDriveEnable k pad port r at at_port e) = cc is
+  undriven t pin root n high is (AtFeed g m u r at at_root not_direct feeds) = cc is
+  undriven t pin root n high is (AtFixed u j k d other r o fixed lt e) = cc is
+  undriven t pin root n high is (AtFree u j k l d other r o free lt at) = cc is
+  undriven t pin root n high is (AtClock u cluster control r o e f) = cc is
+  undriven t pin root n high is (AtEnable u cluster control r o e f) = cc is
+  undriven t pin root n high is (AtReset u cluster control r o e f) = cc is
 
   module _ (routes : List Route) (trees : AreTrees parts plan routes) where
     -- ---- no row enters an output
@@ -227,27 +266,26 @@ module _ (parts : Parts) (rows : PackageRows) (plan : Plan) (pullups : List Bool
       | inr link ↦ inr (link_of parts rows plan pullups on routes trees s link.0)
     ]
 
-    input_pad : (s : Switch) (pad : Pad) → Has (wanted_rows parts plan routes) s → Has (pads parts) pad → wire_named parts pad.tile (pad_input_name pad.pio) ≡ Some s.source.0
+    -- a row that leaves the wire to which a pad gives its level leaves that of a port's pad that is read
+    given_port : (s : Switch) (pad : Pad) → Has (wanted_rows parts plan routes) s → IsOutput parts pad.tile (given_wire pad.pio) s.source.0
         → (k : ℕ) × (port : DesignPad) × At plan.ports k pad × At plan.design.pads k port × (port.reads ≡ true)
-    input_pad s pad has in_pads found = by (wanted_told parts rows plan pullups on routes trees s has).0
+    given_port s pad has out = by (wanted_told parts rows plan pullups on routes trees s has).0
       where
-        out : IsOutput parts pad.tile (named.PadInput pad.pio) s.source.0
-        out = pad_output pad s.source.0 in_pads found
-
-        of_root : (root : Root) (t : TileAt) (wire : TileWire) → IsRootPin plan root t wire → is_read plan.design root ≡ true → wire ≡ named.PadInput pad.pio → (t ≡ pad.tile) ⊎ (is_global_name (wire_name wire) ≡ true)
-            → (k : ℕ) × (port : DesignPad) × At plan.ports k pad × At plan.design.pads k port × (port.reads ≡ true)
-        of_root root t wire (OfPad k other at) read same place =
+        of_root : (root : Root) (t : TileAt) (wire : TileWire) → IsRootPin plan root t wire → IsTileWire wire → is_read plan.design root ≡ true → wire ≡ given_wire pad.pio
+            → (t ≡ pad.tile) ⊎ (is_global_name (wire_name wire) ≡ true) → (k : ℕ) × (port : DesignPad) × At plan.ports k pad × At plan.design.pads k port × (port.reads ≡ true)
+        of_root root t wire (OfPad k other at) within read same place =
             let port = at_below plan.design.pads k (root_of_design parts rows plan pullups on (PadIn k) read) in
-            let tile : other.tile ≡ pad.tile = elim place [ inl there ↦ there | inr global ↦ absurd (true≢false (sym global)) ] in
-            let pio : other.pio ≡ pad.pio = pad_number other.pio pad.pio same in
+            let tile : other.tile ≡ pad.tile = elim place [ inl there ↦ there | inr global ↦ absurd (true≢false (sym global ∙ given_local other.pio within)) ] in
+            let pio : other.pio ≡ pad.pio = given_number other.pio pad.pio same in
             let pads_same : other ≡ pad = λ i. record { tile = tile i; pio = pio i } in
             (k, port.0, subst (λ (p : Pad). At plan.ports k p) pads_same at, port.1, on.placed.formed.reads k port.0 port.1 ∙ read)
-        of_root root t wire (OfCell u i c cell stands) read same place = absurd (cc same)
-        of_root root t wire (OfGlobal g n u at) read same place = absurd (cc same)
+        of_root root t wire (OfCell u i c cell stands) within read same place = absurd (given_other pad.pio (named.CellOutput i) refl (sym same))
+        of_root root t wire (OfGlobal g n u at) within read same place = absurd (given_other pad.pio (named.Global n) refl (sym same))
 
         carry_or_pad : (t : TileAt) (i : ℕ) → kind_at parts t ≡ Some Logic → i < 8 → wire_named parts t (carry_out_name i) ≡ Some s.source.0 → ⊥
         carry_or_pad t i logic lt from =
-            carry_not_pad i pad.pio (outputs_same parts on.lawful on.names t pad.tile (named.CarryOut i) (named.PadInput pad.pio) s.source.0 (carry_output t i s.source.0 logic lt from) out).0
+            given_other pad.pio (named.CarryOut i) refl
+            (sym (outputs_same parts on.lawful on.names t pad.tile (named.CarryOut i) (given_wire pad.pio) s.source.0 (carry_output t i s.source.0 logic lt from) out).0)
 
         never_link : IsCellLink parts plan s ⊎ IsChunkLink parts plan s → ⊥
         never_link (inl l) = cell_source l.place (slot_below parts rows plan pullups on l.tile l.place l.number l.cell l.stands) l.from
@@ -257,7 +295,7 @@ module _ (parts : Parts) (rows : PackageRows) (plan : Plan) (pullups : List Bool
 
             cell_source : (i : ℕ) → i < 8 → carry_source parts l.tile i ≡ Some s.source.0 → ⊥
             cell_source zero lt from =
-                in_or_out parts on.lawful on.names l.tile pad.tile named.FirstCarry (named.PadInput pad.pio) s.source.0 (record { kind = Logic; kind_is = logic; within = tt; found = from; reads = refl }) out
+                in_or_out parts on.lawful on.names l.tile pad.tile named.FirstCarry (given_wire pad.pio) s.source.0 (record { kind = Logic; kind_is = logic; within = tt; found = from; reads = refl }) out
             cell_source (suc j) lt from = carry_or_pad l.tile j logic (omega (arith, lt)) from
         never_link (inr l) =
             let b = tile_below parts rows plan pullups on l.tile l.cluster l.run l.chunk l.on l.run_is in
@@ -266,12 +304,76 @@ module _ (parts : Parts) (rows : PackageRows) (plan : Plan) (pullups : List Bool
         by : IsTreeRow parts plan routes s ⊎ ((IsCellLink parts plan s ⊎ IsChunkLink parts plan s) × IsFirst parts s) → (k : ℕ) × (port : DesignPad) × At plan.ports k pad × At plan.design.pads k port × (port.reads ≡ true)
         by (inl p) =
             let first : s.source ≡ wire_no p.tree.net.0 =
-            not_entered parts rows plan pullups on routes trees p.root p.route s.source p.tree p.source (output_named parts on.lawful on.names pad.tile (named.PadInput pad.pio) s.source.0 out) in
+            not_entered parts rows plan pullups on routes trees p.root p.route s.source p.tree p.source (output_named parts on.lawful on.names pad.tile (given_wire pad.pio) s.source.0 out) in
             let at = root_at parts rows plan pullups on p.root p.tree.net.0 p.tree.read p.tree.wire in
             let here : IsOutput parts at.0 at.1 s.source.0 = subst (λ (v : WireNo). IsOutput parts at.0 at.1 v.0) (sym first) at.3 in
-            let one = outputs_same parts on.lawful on.names at.0 pad.tile at.1 (named.PadInput pad.pio) s.source.0 here out in
-            of_root p.root at.0 at.1 at.2 p.tree.read one.0 one.1
+            let one = outputs_same parts on.lawful on.names at.0 pad.tile at.1 (given_wire pad.pio) s.source.0 here out in
+            of_root p.root at.0 at.1 at.2 here.within p.tree.read one.0 one.1
         by (inr link) = absurd (never_link link.0)
+
+    -- ---- wires of block RAMs
+    -- no row leaves a wire that has the name of a memory and is no pin
+    never_strange : (s : Switch) (t : TileAt) (name : List ℕ) → Has (wanted_rows parts plan routes) s → wire_named parts t name ≡ Some s.source.0 → is_strange_in (kind_at parts t) name ≡ true → ⊥
+    never_strange s t name has found strange =
+        let r = (wanted_told parts rows plan pullups on routes trees s has).1 in
+        let both = and_parts (is_private parts r.group.tile r.group.wire && not (has_strange_name parts r.row_in.source)) (is_alone parts.groups r.group s.row.0 r.row_in) r.sound in
+        let none = not_true (has_strange_name parts r.row_in.source) (and_parts (is_private parts r.group.tile r.group.wire) (not (has_strange_name parts r.row_in.source)) both.0).1 in
+        let named_so = on.lawful.names.found t name s.source.0 found in
+        let some : has_strange_name parts s.source.0 ≡ true =
+        Has_any (λ (n : PlacedName). is_strange_in (kind_at parts n.tile) n.name) (names_of parts s.source.0) (placed_at t name) named_so.0 named_so.1 strange in
+        true≢false (sym some ∙ ap (has_strange_name parts) r.is_row.source ∙ none)
+
+    -- the name in a tile that has no such wire of a block RAM
+    elsewhere : (n : ℕ) (o : Option TileKind) → is_read_out n ≡ true → has_ram_wire_in n o ≡ false → is_strange_in o (ram_name n) ≡ true
+    elsewhere n None out absent = ap (λ b. b && true) (read_out_name n out)
+    elsewhere n (Some kind) out absent =
+        let below : n < 76 = (let lt = ltb-true n 16 out in omega (arith, lt)) in
+        let read = on.names.read (named.Ram n) below in
+        let input : is_input_name kind (ram_name n) ≡ false = ap (λ (o : Option TileWire). option_map_or (is_input_of kind) o false) read ∙ ram_reads kind n ∙ ap (λ b. b && not (is_read_out n)) absent in
+        let output : is_output_name kind (ram_name n) ≡ false = ap (λ (o : Option TileWire). option_map_or (is_output_of kind) o false) read ∙ ram_drives kind n ∙ ap (λ b. b && is_read_out n) absent in
+        ap (λ b. b && not (is_input_name kind (ram_name n) || is_output_name kind (ram_name n))) (read_out_name n out) ∙ ap (λ b. not (b || is_output_name kind (ram_name n))) input ∙ ap not output
+
+    -- what is read out and a row leaves is read out of a port's pin
+    read_out : (s : Switch) (t : TileAt) (n : ℕ) → Has (wanted_rows parts plan routes) s → is_read_out n ≡ true → wire_named parts t (ram_name n) ≡ Some s.source.0 → Has plan.ports (pin_at t n)
+    read_out s t n has out found = by (has_ram_wire_in n (kind_at parts t)) refl
+      where
+        by : (b : Bool) → has_ram_wire_in n (kind_at parts t) ≡ b → Has plan.ports (pin_at t n)
+        by false absent = absurd (never_strange s t (ram_name n) has found (elsewhere n (kind_at parts t) out absent))
+        by true stands =
+            (let there = ram_stands parts t n s.source.0 stands found in
+            let of_ram : IsOutput parts t (named.Ram n) s.source.0 = record {
+              kind = there.0;
+              kind_is = there.1;
+              within = (let lt = ltb-true n 16 out in let below : n < 76 = omega (arith, lt) in below);
+              found = found;
+              drives = stands_driven there.0 n there.2 out;
+            } in
+            let port = given_port s (pin_at t n) has (subst (λ (wire : TileWire). IsOutput parts t wire s.source.0) (sym (pin_given n)) of_ram) in
+            (port.0, port.2))
+
+    -- no row enters the enable of a clock
+    clock_enable_bare : (t : TileAt) (n w : ℕ) → is_clock_enable n ≡ true → has_ram_wire_in n (kind_at parts t) ≡ true → wire_named parts t (ram_name n) ≡ Some w → IsBare (wanted_rows parts plan routes) w
+    clock_enable_bare t n w is_enable stands found s has same =
+        let facts = enable_read n (enable_number n is_enable) in
+        let there = ram_stands parts t n w stands found in
+        let input : IsInput parts t (named.Ram n) s.target.0 = record {
+          kind = there.0;
+          kind_is = there.1;
+          within = facts.1;
+          found = found ∙ ap (λ (v : ℕ). Some v) (sym same);
+          reads = stands_read there.0 n there.2 facts.2;
+        } in
+        elim (wanted_told parts rows plan pullups on routes trees s has).0 [
+          | inl tree ↦ (
+              let got = entered_pin parts rows plan pullups on routes trees s tree t (named.Ram n) input in
+              undriven t got.1 got.0.0 n facts.0 (driven_of_ram got.1 n got.5) got.6)
+          | inr (inl cell, first) ↦ (
+              let two = inputs_same parts on.lawful on.names cell.tile t (named.CellInput cell.place 3) (named.Ram n) s.target.0 (cell_input parts rows plan pullups on routes trees s cell) input in
+              cell_not_ram cell.place 3 n two.0)
+          | inr (inr chunk, first) ↦ (
+              let two = inputs_same parts on.lawful on.names chunk.tile t named.FirstCarry (named.Ram n) s.target.0 (chunk_input parts rows plan pullups on routes trees s chunk) input in
+              first_not_ram n two.0)
+        ]
 
     pub rows_led : AreRowsLed parts plan (wanted_rows parts plan routes)
     rows_led = record {
@@ -283,6 +385,8 @@ module _ (parts : Parts) (rows : PackageRows) (plan : Plan) (pullups : List Bool
       carries = λ t i w logic lt found. out_bare t (named.CarryOut i) w (carry_output t i w logic lt found);
       entries = λ t cluster is. entry t cluster is cluster.run refl;
       chained = λ t i c cell stands takes. cell_linked parts rows plan pullups on routes trees t i c cell stands takes;
+      clock_enables = clock_enable_bare;
       origins = origin;
-      inputs = input_pad;
+      inputs = λ s pad has in_pads found. given_port s pad has (pad_output pad s.source.0 in_pads found);
+      outputs = read_out;
     }

@@ -1,8 +1,8 @@
 -- No two sinks of one root share a target.
-use Rattle.std.proofs.Common.{◌≡◌, ◌⊎◌, ℕ, zero, suc, ◌+◌, ◌<◌, ◌≤◌, Bool, true, false, cond, Option, None, Some, List, [], ◌∷◌, ◌++◌, length, map, refl, sym, ap, ◌∙◌, subst, inl, inr, arith}
-use Rattle.std.specs.Prelude.{slice_get, slice_index_or}
+use Rattle.std.proofs.Common.{◌≡◌, ◌⊎◌, ℕ, zero, suc, ◌+◌, ◌-◌, ◌<◌, ◌≤◌, Bool, true, false, cond, Option, None, Some, List, [], ◌∷◌, ◌++◌, length, map, refl, sym, ap, ◌∙◌, subst, inl, inr, arith}
+use Rattle.std.specs.Prelude.{nat_lt, slice_get, slice_index_or, if◌then◌else◌}
 use Rattle.std.specs.Option.{option_map_or}
-use Rattle.std.proofs.lemmas.Bool.{or_parts}
+use Rattle.std.proofs.lemmas.Bool.{or_parts, ltb-false}
 use Rattle.std.proofs.lemmas.List.{map-append}
 use Rattle.std.proofs.lemmas.Option.{none-some, same_Some}
 use Rattle.ice_base.specs.declared.number.TileAt.{TileAt}
@@ -14,6 +14,7 @@ use Rattle.ice_chip.specs.Lookups.{wire_named, global_of}
 use Rattle.ice_chip.specs.declared.rows.Pad.{Pad}
 use Rattle.ice_chip_names.specs.declared.wire_names.TileWire.{TileWire}
 use Rattle.ice_chip_names.specs.declared.wire_names.TileWire.TheVariants.{CellInput, CellOutput, CarryOut, LookUp, Clock, ClockEnable, SetReset, CarryIn, FirstCarry, PadInput, PadOutput, OutputEnable, InputClock, OutputClock, InOutEnable, Fabout, Global, Ram}
+use Rattle.ice_chip_sockets.specs.Sockets.{driven_wire}
 use Rattle.ice_cells.specs.declared.cell.Control.{Control}
 use Rattle.ice_cells.specs.declared.cell.LogicCell.{LogicCell}
 use Rattle.ice_cells.specs.declared.cluster.Cluster.{Cluster}
@@ -29,6 +30,7 @@ use Rattle.ice_emit_led_laws.specs.Reads.{AreApart}
 use Rattle.ice_emit_led_laws.proofs.Ends.{free_given, input_target}
 use Rattle.ice_emit_led_laws.proofs.Targets.{wire_named_of}
 use Rattle.ice_emit_led_laws.proofs.Roots.{root_self}
+use Rattle.ice_emit_led_laws.proofs.Sockets.{driven_other}
 
 -- ---- where the targets of sinks are
 abbrev pub Place : Type 1
@@ -55,11 +57,19 @@ input_of wire = 0
 abbrev pub pio_of : TileWire → Option ℕ
 pio_of (PadOutput pio) = Some pio
 pio_of (OutputEnable pio) = Some pio
+pio_of (Ram n) = Some (n + 2)
 pio_of wire = None
 
 abbrev pub is_feed : TileWire → Bool
 is_feed Fabout = true
 is_feed wire = false
+
+pio_driven : (pio : ℕ) → pio_of (driven_wire pio) ≡ Some pio
+pio_driven pio = by (nat_lt pio 2) refl
+  where
+    by : (b : Bool) → nat_lt pio 2 ≡ b → pio_of (if b then PadOutput pio else Ram (pio - 2)) ≡ Some pio
+    by true e = refl
+    by false e = (let high = ltb-false pio 2 e in let number : pio - 2 + 2 ≡ pio = omega (arith, high) in ap (λ (n : ℕ). Some n) number)
 
 module _ (parts : Parts) (plan : Plan) (same : (t u : TileAt) (a b : TileWire) (w : ℕ) → IsInput parts t a w → IsInput parts u b w → (a ≡ b) × (t ≡ u)) where
   none_apart : (P : Place) → Apart parts P []
@@ -130,14 +140,14 @@ module _ (parts : Parts) (plan : Plan) (same : (t u : TileAt) (a b : TileWire) (
 
   -- what reads at the pad has the names of pins
   pub record HasInputs (pad : Pad) (port : DesignPad) : Type 0 where
-    pub drive : (root : Root) (w : ℕ) → port.drive ≡ Some root → wire_named parts pad.tile (pin_name (pins.Drive pad.pio)) ≡ Some w → IsInput parts pad.tile (PadOutput pad.pio) w
+    pub drive : (root : Root) (w : ℕ) → port.drive ≡ Some root → wire_named parts pad.tile (pin_name (pins.Drive pad.pio)) ≡ Some w → IsInput parts pad.tile (driven_wire pad.pio) w
     pub enable : (root : Root) (w : ℕ) → port.enable ≡ Some root → wire_named parts pad.tile (pin_name (pins.DriveEnable pad.pio)) ≡ Some w → IsInput parts pad.tile (OutputEnable pad.pio) w
 
   pad_apart : (pad : Pad) (port : DesignPad) → HasInputs pad port → Apart parts (AtPad pad) (map (load_end parts) (pad_loads pad port))
   pad_apart pad port input =
-      loads_joined (AtPin pad.tile (PadOutput pad.pio)) (AtPin pad.tile (OutputEnable pad.pio)) (AtPad pad) (load_at pad.tile (pins.Drive pad.pio) port.drive)
+      loads_joined (AtPin pad.tile (driven_wire pad.pio)) (AtPin pad.tile (OutputEnable pad.pio)) (AtPad pad) (load_at pad.tile (pins.Drive pad.pio) port.drive)
       (load_at pad.tile (pins.DriveEnable pad.pio) port.enable) (pin_apart pad.tile (pins.Drive pad.pio) port.drive input.drive) (pin_apart pad.tile (pins.DriveEnable pad.pio) port.enable input.enable)
-      (λ t wire p q. let e : PadOutput pad.pio ≡ OutputEnable pad.pio = sym p.1 ∙ q.1 in cc) (λ t wire p. (p.0, ap pio_of p.1)) (λ t wire q. (q.0, ap pio_of q.1))
+      (λ t wire p q. driven_other pad.pio (OutputEnable pad.pio) refl (sym p.1 ∙ q.1)) (λ t wire p. (p.0, ap pio_of p.1 ∙ pio_driven pad.pio)) (λ t wire q. (q.0, ap pio_of q.1))
 
   pub pads_apart : (ports : List Pad) (pads : List DesignPad) → ((k : ℕ) (pad : Pad) (port : DesignPad) → At ports k pad → At pads k port → HasInputs pad port)
       → ((j k : ℕ) (pad : Pad) → At ports j pad → At ports k pad → j ≡ k) → Apart parts (AtPads ports) (map (load_end parts) (pads_loads ports pads))
@@ -352,7 +362,7 @@ module _ (parts : Parts) (plan : Plan) (same : (t u : TileAt) (a b : TileWire) (
   of_cell InOutEnable i e = (refl, refl)
   of_cell Fabout i e = absurd (none-some i e)
   of_cell (Global n) i e = (refl, refl)
-  of_cell (Ram n) i e = (refl, refl)
+  of_cell (Ram n) i e = absurd (none-some i e)
 
   -- what reads in the tile has the names of pins
   pub record TileInputs (cells : List LogicCell) (t : TileAt) (cluster : Cluster) : Type 0 where

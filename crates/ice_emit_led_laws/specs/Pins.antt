@@ -8,6 +8,7 @@ use Rattle.ice_chip.specs.WireNames.{IsTileWire, wire_name}
 use Rattle.ice_chip.specs.declared.rows.TileKind.{TileKind}
 use Rattle.ice_chip_names.specs.declared.wire_names.TileWire.{TileWire}
 use Rattle.ice_chip_names.specs.declared.wire_names.TileWire.TheVariants as named
+use Rattle.ice_chip_sockets.specs.Sockets.{driven_wire}
 use Rattle.ice_place_defs.specs.Loads.{Pin, Input, Clock, Enable, SetReset, Feed, Drive, DriveEnable}
 
 -- the wire has the name in the tile, and by this name a tile of its kind reads it
@@ -33,5 +34,5 @@ wire_of Clock = named.Clock
 wire_of Enable = named.ClockEnable
 wire_of SetReset = named.SetReset
 wire_of Feed = named.Fabout
-wire_of (Drive pio) = named.PadOutput pio
+wire_of (Drive pio) = driven_wire pio
 wire_of (DriveEnable pio) = named.OutputEnable pio

@@ -1,7 +1,7 @@
 -- What the pins of a placed and routed design read is led to them.
 use Rattle.std.specs.Prelude.{◌≡◌, ℕ, ◌<◌, Bool, true, false, Option, None, Some, List, slice_index_or}
 use Rattle.ice_base.specs.declared.number.TileAt.{TileAt}
-use Rattle.ice_base_values.specs.Order.{At, Has}
+use Rattle.ice_base_values.specs.Order.{At}
 use Rattle.ice_chip.specs.Database.{Parts, PackageRows}
 use Rattle.ice_chip.specs.IsRead.{IsChip}
 use Rattle.ice_chip.specs.Lookups.{wire_named, global_of}
@@ -19,7 +19,7 @@ use Rattle.ice_place_defs.specs.Plan.{Plan, is_direct}
 use Rattle.ice_emit_nets.specs.Ends.{is_free}
 use Rattle.ice_graph.specs.Leading.{Route}
 use Rattle.ice_emit_defs.specs.Arrivals.{Held}
-use Rattle.ice_emit_defs.specs.Led.{IsLed, IsFreeLed, IsControlLed, IsPadLed}
+use Rattle.ice_emit_defs.specs.Led.{IsLed, IsFreeLed, IsControlLed, IsPadLed, IsSocket}
 use Rattle.ice_emit_defs.specs.Routed.{IsPlaced, AreTrees}
 use Rattle.ice_emit_defs.specs.Slots.{IsOn, StandsIn}
 use Rattle.ice_emit_defs.specs.Written.{wanted_rows, held_by}
@@ -32,7 +32,7 @@ pub record ArePinsLed (parts : Parts) (plan : Plan) (wanted : List Switch) (held
       → (k : ℕ) → k < 4 → (k ≡ 3 → cell.carry_to_in3 ≡ false) → IsLed parts plan wanted (wire_named parts t (input_name i k)) (slice_index_or cell.ins k None)
   pub free : (t : TileAt) (i c : ℕ) (cell : LogicCell) → StandsIn plan t i c cell → is_free cell ≡ true → IsFreeLed parts plan wanted held t i cell
   pub controls : (t : TileAt) (cluster : Cluster) (control : Control) → IsOn plan t cluster → cluster.control ≡ Some control → IsControlLed parts plan wanted t control
-  pub ports : (k : ℕ) (pad : Pad) (port : DesignPad) → At plan.ports k pad → At plan.design.pads k port → Has (pads parts) pad → IsPadLed parts plan wanted pad port
+  pub ports : (k : ℕ) (pad : Pad) (port : DesignPad) → At plan.ports k pad → At plan.design.pads k port → IsSocket parts pad → IsPadLed parts plan wanted pad port
   pub feeds : (g n : ℕ) (root : Option Root) (t : TileAt) → At plan.globals g n → At plan.design.globals g root → is_direct plan g ≡ false → global_of parts n ≡ Some t
       → IsLed parts plan wanted (wire_named parts t fabout_name) root
 

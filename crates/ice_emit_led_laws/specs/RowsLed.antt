@@ -5,9 +5,11 @@ use Rattle.ice_base_values.specs.Order.{At, Has}
 use Rattle.ice_chip.specs.Database.{Parts}
 use Rattle.ice_chip.specs.Lookups.{kind_at, wire_named}
 use Rattle.ice_chip.specs.Names.{input_name, pad_input_name}
+use Rattle.ice_chip.specs.RamNames.{ram_name, is_clock_enable, is_read_out, pin_at}
 use Rattle.ice_chip.specs.WireNames.{carry_out_name}
 use Rattle.ice_chip.specs.declared.rows.Pad.{Pad}
 use Rattle.ice_chip.specs.declared.rows.TileKind.TheVariants.{Logic}
+use Rattle.ice_chip_sockets.specs.Sockets.{has_ram_wire_in}
 use Rattle.ice_decode.specs.declared.driver.Switch.{Switch}
 use Rattle.ice_decode.specs.Pads.{pads}
 use Rattle.ice_cells.specs.declared.cell.LogicCell.{LogicCell}
@@ -31,7 +33,11 @@ pub record AreRowsLed (parts : Parts) (plan : Plan) (wanted : List Switch) : Typ
   pub entries : (t : TileAt) (cluster : Cluster) → IsOn plan t cluster → IsEntryLed parts plan wanted t cluster.run
   -- it comes to each last input that takes it
   pub chained : (t : TileAt) (i c : ℕ) (cell : LogicCell) → StandsIn plan t i c cell → cell.carry_to_in3 ≡ true → IsLinked wanted (carry_source parts t i) (wire_named parts t (input_name i 3))
-  -- each row leads on from a root or is a link, and one that leaves the input of a pad leaves that of a port's pad that is read
+  -- nor the enable of a clock of a block RAM
+  pub clock_enables : (t : TileAt) (n w : ℕ) → is_clock_enable n ≡ true → has_ram_wire_in n (kind_at parts t) ≡ true → wire_named parts t (ram_name n) ≡ Some w → IsBare wanted w
+  -- each row leads on from a root or is a link; one that leaves the input of a pad leaves that of a port's pad that is read, and one that
+  -- leaves what a block RAM reads out leaves a port's pin
   pub origins : (s : Switch) → Has wanted s → IsOfRoot parts plan wanted s.source ⊎ IsLink parts plan s
   pub inputs : (s : Switch) (pad : Pad) → Has wanted s → Has (pads parts) pad → wire_named parts pad.tile (pad_input_name pad.pio) ≡ Some s.source.0
       → (k : ℕ) × (port : DesignPad) × At plan.ports k pad × At plan.design.pads k port × (port.reads ≡ true)
+  pub outputs : (s : Switch) (t : TileAt) (n : ℕ) → Has wanted s → is_read_out n ≡ true → wire_named parts t (ram_name n) ≡ Some s.source.0 → Has plan.ports (pin_at t n)

@@ -1,7 +1,8 @@
 -- Nodes have their levels where they start.
-use Rattle.std.proofs.Common.{◌≡◌, ◌⊎◌, ℕ, zero, suc, ◌+◌, ◌%◌, ◌<◌, Bool, true, false, cond, Option, None, Some, List, [], ◌∷◌, length, map, inl, inr, refl, sym, ap, ◌∙◌, subst, true≢false, arith}
-use Rattle.std.specs.Prelude.{◌&&◌, ◌==◌, not, is_some, nat_eq, slice_index_or, option_map}
+use Rattle.std.proofs.Common.{◌≡◌, ◌⊎◌, ℕ, zero, suc, ◌+◌, ◌-◌, ◌%◌, ◌<◌, ◌≤◌, Bool, true, false, cond, Option, None, Some, List, [], ◌∷◌, length, map, inl, inr, refl, sym, ap, ◌∙◌, subst, true≢false, arith}
+use Rattle.std.specs.Prelude.{◌&&◌, ◌==◌, not, is_some, nat_eq, nat_lt, slice_index_or, option_map}
 use Rattle.std.specs.Option.{option_map_or}
+use Rattle.std.proofs.lemmas.Bool.{and_parts, ltb-true, ltb-false}
 use Rattle.std.proofs.lemmas.Option.{same_Some, none-some, get_or_from_slice_get}
 use Rattle.ice_base.specs.declared.number.TileAt.{TileAt}
 use Rattle.ice_base.proofs.Keys.{nat_same, nat_self}
@@ -10,14 +11,17 @@ use Rattle.ice_base_values.specs.System.{reading}
 use Rattle.ice_base_values.proofs.Members.{At_map}
 use Rattle.ice_chip.specs.Lookups.{gbufpin_of, kind_at, wire_named}
 use Rattle.ice_chip.specs.Names.{input_name, pad_input_name}
+use Rattle.ice_chip.specs.RamNames.{ram_name, is_read_out, pin_at}
 use Rattle.ice_chip.specs.WireNames.{fabout_name, global_name}
 use Rattle.ice_chip.specs.declared.rows.Pad.{Pad}
 use Rattle.ice_chip.specs.declared.rows.TileKind.TheVariants.{Io}
+use Rattle.ice_chip_sockets.proofs.SocketWires.{io_wire, ram_wire}
+use Rattle.ice_chip_sockets.specs.Sockets.{has_io_wire, has_ram_pin, gives}
 use Rattle.ice_net.specs.declared.kind.Reset.{Reset}
 use Rattle.ice_net.specs.Meaning.{number_of, table_bit, majority}
 use Rattle.ice_decode.specs.declared.point.Point.{Point}
 use Rattle.ice_decode.specs.declared.point.Point.TheVariants.{Wire, Carry}
-use Rattle.ice_decode.specs.declared.role.Role.TheVariants.{Plain, Output, PadInput, Global, CarryIn}
+use Rattle.ice_decode.specs.declared.role.Role.TheVariants.{Plain, Output, PadInput, RamOutput, Global, CarryIn}
 use Rattle.ice_decode.specs.declared.driver.Driver.TheVariants.{Nothing}
 use Rattle.ice_decode.specs.Cells.{has_flop, looked_up}
 use Rattle.ice_decode.specs.Meaning.{global_gives}
@@ -52,7 +56,8 @@ use Rattle.ice_emit_meaning_laws.proofs.DirectGlobals.{direct_takes, fed_takes_n
 use Rattle.ice_emit_meaning_laws.proofs.CarriesIn.{IsInRun, run_before, in_run, comes_in}
 use Rattle.ice_emit_meaning_laws.proofs.PadTypes.{pad_there}
 use Rattle.ice_emit_meaning_laws.proofs.Pins.{each_four, input_plain, output_is, carry_is, first_is, pad_is, fabout_plain, global_is}
-use Rattle.ice_emit_meaning_laws.proofs.Read.{IsReadable, cell_reads, feed_reads, io_wire, item_beside, pad_below}
+use Rattle.ice_emit_meaning_laws.proofs.RamWires.{read_out_is}
+use Rattle.ice_emit_meaning_laws.proofs.Read.{IsReadable, cell_reads, feed_reads, item_beside}
 use Rattle.ice_emit_meaning_laws.proofs.Slots.{below, logic_on, logic_there}
 use Rattle.ice_emit_meaning_laws.proofs.Starts.{Starts, AtCell, AtCarry, AtPad, AtGlobal, AtFirst, Below, FromSlot, FromRun, FromTile, root_starts, below_is}
 use Rattle.ice_emit_meaning_laws.proofs.WireLevels.{HasLevel, HaveLevels, Reads, put, wire_made, carry_made, carried, plain_low, row_level, led_level}
@@ -394,9 +399,9 @@ module _ (g : Premises) (bonded : List Pad) (levels kept kept_cells : List Bool)
 
   -- ---- pads
   -- what a port's pad gives goes through no register
-  unregistered : (k : ℕ) (pad : Pad) (port : DesignPad) → At g.plan.ports k pad → At d.pads k port → kind_at g.parts pad.tile ≡ Some Io → has_input_register g.parts g.bits pad ≡ false
-  unregistered k pad port here there io =
-      let typed : pin_type g.parts g.bits pad ≡ port.pin_type = g.are_set.types k pad port here there (pad_there g pad io (pad_below g k pad here)) in
+  unregistered : (k : ℕ) (pad : Pad) (port : DesignPad) → At g.plan.ports k pad → At d.pads k port → kind_at g.parts pad.tile ≡ Some Io → pad.pio < 2 → has_input_register g.parts g.bits pad ≡ false
+  unregistered k pad port here there io lt =
+      let typed : pin_type g.parts g.bits pad ≡ port.pin_type = g.are_set.types k pad port here there (pad_there g pad io lt) in
       ap (λ n. n % 4 == 0) typed ∙ by (g.placed.formed.pads k port there)
     where
       by : IsPad port → (port.pin_type % 4 == 0) ≡ false
@@ -409,14 +414,43 @@ module _ (g : Premises) (bonded : List Pad) (levels kept kept_cells : List Bool)
   arrive_next n lower p (AtFirst w t r cluster run on is at named bare) =
       let entry = (g.are_set.tiles t cluster on).entry r run is at in
       wire_made g.parts g.bits g.extras bonded levels kept w.0 Nothing (CarryIn t) [] (v (Level run.set)) bare (first_is g.parts g.lawful t (logic_on g t cluster on) w.0 named) tt (entry ∙ sym (meets (Level run.set)))
-  arrive_next n lower p (AtPad w k pad port here there reads named bare) =
-      let io = io_wire g.parts pad.tile (pad_input_name pad.pio) ((g.placed.pads.wires k port pad there here).input reads) in
-      let is = pad_is g.parts g.lawful pad.tile io.0 w.0 pad.pio (pad_below g k pad here) named in
-      let level : v (Net (PadIn k)) ≡ level_of bonded levels pad =
-      meets (Net (PadIn k)) ∙ get_or_from_slice_get (port_levels bonded g.plan.ports levels) k (level_of bonded levels pad) false (At_map (level_of bonded levels) g.plan.ports k pad here) in
-      wire_made g.parts g.bits g.extras bonded levels kept w.0 Nothing (PadInput pad) [] (v (Net (PadIn k))) bare is tt
-      (ap (λ b. cond b (input_kept g.parts kept pad) (pad_gives g.parts g.bits bonded levels pad)) (unregistered k pad port here there io.0)
-      ∙ ap (λ b. b && level_of bonded levels pad) (g.are_set.enabled k pad port here there reads) ∙ sym level)
+  arrive_next n lower p (AtPad w k pad port here there reads named bare) = by (nat_lt pad.pio 2) refl ((g.placed.pads.wires k port pad there here).input reads)
+    where
+      level : v (Net (PadIn k)) ≡ level_of bonded levels pad
+      level = meets (Net (PadIn k)) ∙ get_or_from_slice_get (port_levels bonded g.plan.ports levels) k (level_of bonded levels pad) false (At_map (level_of bonded levels) g.plan.ports k pad here)
+
+      pin : ℕ
+      pin = pad.pio - 2
+
+      -- the wire that a pad gives its level to, by whether it is one of an IO tile
+      name : Bool → List ℕ
+      name b = cond b (pad_input_name pad.pio) (ram_name pin)
+
+      -- the input of a pad of an IO tile
+      low : pad.pio < 2 → has_io_wire g.parts pad.tile (pad_input_name pad.pio) ≡ true → wire_named g.parts pad.tile (pad_input_name pad.pio) ≡ Some w.0 → HasL (Wire w) (v (Net (PadIn k)))
+      low lt wired at =
+          let io = io_wire g.parts pad.tile (pad_input_name pad.pio) wired in
+          let is = pad_is g.parts g.lawful pad.tile io.0 w.0 pad.pio lt at in
+          wire_made g.parts g.bits g.extras bonded levels kept w.0 Nothing (PadInput pad) [] (v (Net (PadIn k))) bare is tt
+          (ap (λ b. cond b (input_kept g.parts kept pad) (pad_gives g.parts g.bits bonded levels pad)) (unregistered k pad port here there io.0 lt)
+          ∙ ap (λ b. b && level_of bonded levels pad) (g.are_set.enabled k pad port here there reads) ∙ sym level)
+
+      -- what a block RAM reads out
+      of_ram : 2 ≤ pad.pio → is_read_out pin ≡ true → has_ram_pin g.parts pad.tile pin ≡ true → wire_named g.parts pad.tile (ram_name pin) ≡ Some w.0 → HasL (Wire w) (v (Net (PadIn k)))
+      of_ram le out wired at =
+          let kind = ram_wire g.parts pad.tile pin wired in
+          let same : pin_at pad.tile pin ≡ pad = let back : pad.pio - 2 + 2 ≡ pad.pio = omega (arith, le) in ap (λ p. record { tile = pad.tile; pio = p }) back in
+          let is = read_out_is g.parts g.lawful pad.tile kind.0 kind.1 w.0 pin (let lt = ltb-true pin 16 out in omega (arith, lt)) kind.2 out at ∙ ap RamOutput same in
+          wire_made g.parts g.bits g.extras bonded levels kept w.0 Nothing (RamOutput pad) [] (v (Net (PadIn k))) bare is tt (sym level)
+
+      by : (b : Bool) → nat_lt pad.pio 2 ≡ b → gives g.parts pad ≡ true → HasL (Wire w) (v (Net (PadIn k)))
+      by true e given =
+          low (ltb-true pad.pio 2 e) (sym (ap (λ b. cond b (has_io_wire g.parts pad.tile (pad_input_name pad.pio)) (is_read_out pin && has_ram_pin g.parts pad.tile pin)) e) ∙ given)
+          (sym (ap (λ b. wire_named g.parts pad.tile (name b)) e) ∙ named)
+      by false e given =
+          let both = and_parts (is_read_out pin) (has_ram_pin g.parts pad.tile pin)
+          (sym (ap (λ b. cond b (has_io_wire g.parts pad.tile (pad_input_name pad.pio)) (is_read_out pin && has_ram_pin g.parts pad.tile pin)) e) ∙ given) in
+          of_ram (ltb-false pad.pio 2 e) both.0 both.1 (sym (ap (λ b. wire_named g.parts pad.tile (name b)) e) ∙ named)
   arrive_next n lower p (AtGlobal w b m here named bare) = by (is_direct g.plan b) refl
     where
       is : role_of g.parts w.0 ≡ Global m

@@ -3,6 +3,8 @@ mod Pins
 mod IoFeeds
 mod Feeding
 mod CarriesIn
+mod RamWires
+mod RamTiles
 mod Read
 mod Slots
 mod Starts
@@ -15,3 +17,4 @@ mod PadTypes
 mod Faultless
 mod Steps
 mod Realising
+mod WithoutRams

@@ -1,10 +1,12 @@
 -- What a law over the bits of a placed and routed design rests on, in one record.
-use Rattle.std.specs.Prelude.{◌≡◌, ℕ, Bool, List}
+use Rattle.std.specs.Prelude.{◌≡◌, ◌≤◌, ℕ, Bool, List, length}
 use Rattle.ice_chip.specs.Database.{Parts, PackageRows}
 use Rattle.ice_chip.specs.IsRead.{IsRead}
 use Rattle.ice_chip_laws.specs.Laws.{IsLawful}
 use Rattle.ice_bits.specs.Configuration.{Bits}
 use Rattle.ice_decode.specs.declared.driver.Switch.{Switch}
+use Rattle.ice_ram.specs.Ram.{Kept}
+use Rattle.ice_ram.specs.declared.setup.Setup.{Setup}
 use Rattle.ice_cluster.specs.Slots.{AreSlots, AreDriven}
 use Rattle.ice_cluster.specs.Chunks.{AreChunks}
 use Rattle.ice_emit_rows_laws.specs.Wanted.{IsWired}
@@ -20,6 +22,7 @@ pub record Premises : Type 0 where
   pub bonded : PackageRows
   pub plan : Plan
   pub pullups : List Bool
+  pub rams : List (Setup × Kept)
   pub wanted : List Switch
   pub held : Held
   pub bits : Bits
@@ -29,8 +32,9 @@ pub record Premises : Type 0 where
   pub lawful : IsLawful parts
   -- what is placed, led and set
   pub placed : IsPlaced parts bonded plan pullups
+  pub enough : placed.rams ≤ length rams
   pub led : AreLed parts plan wanted held
-  pub are_set : AreSet parts plan wanted held bits
+  pub are_set : AreSet parts plan rams wanted held bits
   pub wired : IsWired parts bits wanted
   pub extras_are : extras ≡ plan_extras parts plan
   -- what stands in slots

@@ -1,18 +1,19 @@
 -- What a design reads is of the design, and a pad that it reads has a wire to read it by.
-use Rattle.std.proofs.Common.{◌≡◌, ◌⊎◌, ℕ, zero, suc, ◌<◌, Bool, true, false, cond, Option, None, Some, List, [], ◌∷◌, ◌++◌, length, map, flat_map, inl, inr, refl, sym, ap, ◌∙◌, subst, eq-eqb, arith}
-use Rattle.std.specs.Prelude.{is_some}
+use Rattle.std.proofs.Common.{◌≡◌, ◌⊎◌, ℕ, zero, suc, ◌<◌, Bool, true, false, cond, Option, Some, List, [], ◌∷◌, ◌++◌, length, map, flat_map, inl, inr, refl, sym, ap, ◌∙◌, subst, eq-eqb, arith}
 use Rattle.std.specs.List.{list_any}
-use Rattle.std.proofs.lemmas.Bool.{and_parts, true≢false}
+use Rattle.std.proofs.lemmas.Bool.{true≢false}
 use Rattle.std.proofs.lemmas.Option.{same_Some, none-some, slice_get_within}
 use Rattle.indexmap.specs.IndexSet.{insert_key, insert_all}
-use Rattle.ice_base.specs.declared.number.TileAt.{TileAt}
 use Rattle.ice_base_values.specs.Order.{At, Has}
 use Rattle.ice_base_values.proofs.Members.{Has_any, any_Has, Has_all, map_Has}
-use Rattle.ice_chip.specs.Database.{Parts, same_pad}
-use Rattle.ice_chip.specs.Lookups.{kind_at, wire_named}
+use Rattle.ice_chip.specs.Database.{Parts, PackageRows, same_pad}
+use Rattle.ice_chip.specs.IsRead.{IsRead}
+use Rattle.ice_chip.specs.Lookups.{kind_at}
 use Rattle.ice_chip.specs.Within.{IsPad, IsPackage}
+use Rattle.ice_chip.specs.RamNames.{has_ram_wire}
 use Rattle.ice_chip.proofs.Keys.{pad_same}
 use Rattle.ice_chip.specs.declared.rows.Pad.{Pad}
+use Rattle.ice_chip.specs.declared.rows.TileKind.{TileKind}
 use Rattle.ice_chip.specs.declared.rows.TileKind.TheVariants.{Io}
 use Rattle.ice_decode.proofs.Members.{Has_left, Has_right}
 use Rattle.ice_cells.specs.declared.cell.LogicCell.{LogicCell}
@@ -22,8 +23,9 @@ use Rattle.ice_cells.specs.declared.root.Root.{Root}
 use Rattle.ice_cells.specs.declared.root.Root.TheVariants.{PadIn, CellOut, GlobalOut, CarryOut}
 use Rattle.ice_cells.specs.Readings.{carry_root, cell_roots, pad_roots, roots_read, is_read}
 use Rattle.ice_cells.specs.Same.{same_root, same_source}
-use Rattle.ice_pads.specs.PadWires.{is_io_tile, has_io_wire}
-use Rattle.ice_pads.proofs.IoKinds.{io_kind}
+use Rattle.ice_chip_rams.specs.Sites.{ram_tile}
+use Rattle.ice_chip_sockets.specs.Pins.{IsRamPin}
+use Rattle.ice_chip_sockets.proofs.SiteFacts.{site_facts, pin_tile}
 use Rattle.ice_emit_meaning_laws.proofs.Premises.{Premises}
 
 -- ---- items of lists
@@ -79,17 +81,6 @@ module _ (d : Design) where
   pub feed_reads : (b : ℕ) (o : Option Root) → At d.globals b o → (r : Root) → o ≡ Some r → IsReadable r
   feed_reads b o at r e = readable r (Has_right (from_carries ++ from_cells ++ from_pads) d.globals (Some r) (b, at ∙ ap (λ (x : Option Root). Some x) e))
 
--- ---- tiles of pads
-
-some_there : {X : Type 0} (o : Option X) → is_some o ≡ true → (x : X) × (o ≡ Some x)
-some_there None e = absurd (true≢false (sym e))
-some_there (Some x) e = (x, refl)
-
-pub io_wire : (parts : Parts) (t : TileAt) (name : List ℕ) → has_io_wire parts t name ≡ true → (kind_at parts t ≡ Some Io) × ((w : ℕ) × (wire_named parts t name ≡ Some w))
-io_wire parts t name e =
-    let both = and_parts (is_io_tile parts t) (is_some (wire_named parts t name)) e in
-    (io_kind (kind_at parts t) both.0, some_there (wire_named parts t name) both.1)
-
 -- ---- pads of a package
 one_more : (ks : List Pad) (k p : Pad) (b : Bool) → Has (cond b ks (ks ++ k ∷ [])) p → Has ks p ⊎ (k ≡ p)
 one_more ks k p true has = inl has
@@ -117,19 +108,33 @@ inserted ks (x ∷ xs) p has = by (inserted (insert_key same_pad ks x) xs p has)
     by (inl h) = old (one_more ks x p (list_any (same_pad x) ks) h)
     by (inr h) = inr (suc h.0, h.1)
 
-module _ (g : Premises) where
-  -- a port's pad is pad 0 or pad 1 of its tile
-  pub pad_below : (k : ℕ) (pad : Pad) → At g.plan.ports k pad → pad.pio < 2
-  pad_below k pad at =
-      let found = any_Has (same_pad pad) g.bonded.pads (g.placed.pads.bonded k pad at) in
-      let form : IsPackage g.parts.width g.parts.height g.bonded = Has_all (IsPackage g.parts.width g.parts.height) g.parts.packages g.bonded g.chip_read.package_forms g.placed.«package» in
-      let there : Has (insert_all same_pad [] (map (λ (pin : List ℕ × Pad). pin.1) g.bonded.pins)) pad =
-      subst (λ (pads : List Pad). Has pads pad) form.pads (subst (λ (p : Pad). Has g.bonded.pads p) (sym (pad_same pad found.0 found.2)) found.1) in
-      by form (inserted [] (map (λ (pin : List ℕ × Pad). pin.1) g.bonded.pins) pad there)
-    where
-      by : IsPackage g.parts.width g.parts.height g.bonded → Has [] pad ⊎ Has (map (λ (pin : List ℕ × Pad). pin.1) g.bonded.pins) pad → pad.pio < 2
-      by form (inl h) = absurd (none-some pad h.1)
-      by form (inr h) =
-          let pin = map_Has (λ (pin : List ℕ × Pad). pin.1) g.bonded.pins pad h in
-          let is : IsPad g.parts.width g.parts.height pin.0.1 = Has_all (λ (p : List ℕ × Pad). IsPad g.parts.width g.parts.height p.1) g.bonded.pins pin.0 form.pins pin.1 in
-          subst (λ (p : Pad). p.pio < 2) pin.2 is.pio
+-- a pad of a package is pad 0 or pad 1 of its tile
+pub bonded_low : (parts : Parts) (rows : PackageRows) (pad : Pad) → IsRead parts → Has parts.packages rows → list_any (same_pad pad) rows.pads ≡ true → pad.pio < 2
+bonded_low parts rows pad read stands is =
+    let found = any_Has (same_pad pad) rows.pads is in
+    let form : IsPackage parts.width parts.height rows = Has_all (IsPackage parts.width parts.height) parts.packages rows read.package_forms stands in
+    let there : Has (insert_all same_pad [] (map (λ (pin : List ℕ × Pad). pin.1) rows.pins)) pad =
+    subst (λ (pads : List Pad). Has pads pad) form.pads (subst (λ (p : Pad). Has rows.pads p) (sym (pad_same pad found.0 found.2)) found.1) in
+    by form (inserted [] (map (λ (pin : List ℕ × Pad). pin.1) rows.pins) pad there)
+  where
+    by : IsPackage parts.width parts.height rows → Has [] pad ⊎ Has (map (λ (pin : List ℕ × Pad). pin.1) rows.pins) pad → pad.pio < 2
+    by form (inl h) = absurd (none-some pad h.1)
+    by form (inr h) =
+        let pin = map_Has (λ (pin : List ℕ × Pad). pin.1) rows.pins pad h in
+        let is : IsPad parts.width parts.height pin.0.1 = Has_all (λ (p : List ℕ × Pad). IsPad parts.width parts.height p.1) rows.pins pin.0 form.pins pin.1 in
+        subst (λ (p : Pad). p.pio < 2) pin.2 is.pio
+
+-- the tile of a pin of a block RAM is none of pads
+pub pin_other : (parts : Parts) (rams : ℕ) (pad : Pad) → IsRamPin parts rams pad → kind_at parts pad.tile ≡ Some Io → ⊥
+pin_other parts rams pad pin io =
+    let there = pin_tile parts pin.site pin.number (site_facts parts pin.place pin.site pin.there) in
+    let tile : pad.tile ≡ ram_tile pin.site pin.number = ap (λ (p : Pad). p.tile) pin.is_pin in
+    let same : Io ≡ there.kind = same_Some Io there.kind (sym io ∙ ap (kind_at parts) tile ∙ there.kind_is) in
+    true≢false (sym there.stands ∙ ap (λ (k : TileKind). has_ram_wire k pin.number) (sym same))
+
+-- a port's pad is pad 0 or pad 1 of its tile, or a pin of a block RAM
+pub low_or_pin : (g : Premises) (k : ℕ) (pad : Pad) → At g.plan.ports k pad → (pad.pio < 2) ⊎ IsRamPin g.parts g.placed.rams pad
+low_or_pin g k pad at = elim (g.placed.pads.bonded k pad at) [
+  | inl is ↦ inl (bonded_low g.parts g.bonded pad g.chip_read g.placed.«package» is)
+  | inr pin ↦ inr pin
+]

@@ -8,7 +8,7 @@ use Rattle.ice_base.proofs.Options.{and_then_some}
 use Rattle.ice_base_values.specs.Order.{At, Has}
 use Rattle.ice_base_values.proofs.Places.{At_same}
 use Rattle.ice_chip.specs.Lookups.{wire_named}
-use Rattle.ice_chip.specs.Names.{pad_input_name}
+use Rattle.ice_chip_sockets.specs.Sockets.{given_name}
 use Rattle.ice_chip.specs.WireNames.{output_name, carry_out_name, first_carry_name}
 use Rattle.ice_chip.specs.declared.rows.Pad.{Pad}
 use Rattle.ice_decode.specs.declared.driver.Switch.{Switch}
@@ -37,11 +37,11 @@ use Rattle.ice_emit_meaning_laws.proofs.CarriesIn.{IsInRun, run_before}
 use Rattle.ice_emit_meaning_laws.proofs.Read.{IsReadable, item_beside, item_there}
 use Rattle.ice_emit_meaning_laws.proofs.Slots.{first_there, slot_stands, stands_on}
 
--- where a node starts: the output of a cell, its carry, the input of a pad, a global, and the carry into a run
+-- where a node starts: the output of a cell, its carry, the wire that a pad gives its level to, a global, and the carry into a run
 pub data Starts (g : Premises) : Point → Node → Type 0 where
   AtCell : (w : WireNo) (t : TileAt) (i c : ℕ) (cell : LogicCell) → StandsIn g.plan t i c cell → wire_named g.parts t (output_name i) ≡ Some w.0 → driver g.parts g.bits w.0 ≡ Nothing → Starts g (Wire w) (Net (CellOut c))
   AtCarry : (t : TileAt) (i c : ℕ) (cell : LogicCell) → StandsIn g.plan t i c cell → cell.carry ≡ true → Starts g (Carry t i) (Net (CarryOut c))
-  AtPad : (w : WireNo) (k : ℕ) (pad : Pad) (port : DesignPad) → At g.plan.ports k pad → At g.plan.design.pads k port → port.reads ≡ true → wire_named g.parts pad.tile (pad_input_name pad.pio) ≡ Some w.0
+  AtPad : (w : WireNo) (k : ℕ) (pad : Pad) (port : DesignPad) → At g.plan.ports k pad → At g.plan.design.pads k port → port.reads ≡ true → wire_named g.parts pad.tile (given_name pad.pio) ≡ Some w.0
       → driver g.parts g.bits w.0 ≡ Nothing → Starts g (Wire w) (Net (PadIn k))
   AtGlobal : (w : WireNo) (b n : ℕ) → At g.plan.globals b n → global_wire g.parts n ≡ Some w.0 → driver g.parts g.bits w.0 ≡ Nothing → Starts g (Wire w) (Net (GlobalOut b))
   AtFirst : (w : WireNo) (t : TileAt) (r : ℕ) (cluster : Cluster) (run : Run) → IsOn g.plan t cluster → cluster.run ≡ Some (r, 0) → At g.plan.design.runs r run → wire_named g.parts t first_carry_name ≡ Some w.0

@@ -1,12 +1,12 @@
 -- Numbers of nets.
-use Rattle.std.proofs.Common.{◌≡◌, ℕ, arith, Bool, true, cond, Option, Some, ◌+◌, List, [], ◌∷◌, ◌++◌, length, map, refl, ap, sym, ◌∙◌}
+use Rattle.std.proofs.Common.{◌≡◌, ℕ, arith, true, cond, Option, Some, ◌+◌, List, [], ◌∷◌, ◌++◌, length, map, refl, ap, sym, ◌∙◌}
 use Rattle.std.specs.Prelude.{is_some, slice_get}
 use Rattle.std.specs.List.{range_with_len}
 use Rattle.ice_base.specs.declared.number.WireNo.{WireNo}
 use Rattle.std.proofs.lemmas.List.{map-append, length_push}
 use Rattle.std.proofs.lemmas.List.FromFn.{map-range_with_len_more}
 use Rattle.ice_core.specs.declared.net.Net.{Net}
-use Rattle.ice_emit_nets.specs.Nets.{Bare, net_number, bare_net}
+use Rattle.ice_emit_nets.specs.Nets.{net_number, bare_net}
 use Rattle.ice_emit_nets.specs.Collected.{AreNumbered, bare_nets, one_net}
 
 map_self : (xs : List ℕ) → map (λ (n : ℕ). n) xs ≡ xs

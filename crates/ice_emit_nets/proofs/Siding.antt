@@ -1,5 +1,5 @@
 -- Two lists side by side, of which the second is gone through.
-use Rattle.std.proofs.Common.{◌≡◌, ℕ, ◌+◌, ◌<◌, ◌≤◌, length, drop, get_or, drop-cons, add-one, zero, suc, Option, None, Some, List, [], ◌∷◌, ◌++◌, map, refl, ap, sym, ◌∙◌, arith}
+use Rattle.std.proofs.Common.{◌≡◌, ℕ, ◌+◌, ◌<◌, ◌≤◌, length, drop, get_or, drop-cons, add-one, suc, Option, List, [], ◌∷◌, ◌++◌, map, refl, ap, sym, ◌∙◌, arith}
 use Rattle.std.specs.Prelude.{slice_get}
 use Rattle.std.specs.Option.{option_map_or}
 use Rattle.std.proofs.Math.ListN.{drop_of_length-le}
@@ -11,7 +11,7 @@ use Rattle.ice_cells.specs.declared.cell.LogicCell.{LogicCell}
 use Rattle.ice_cells.specs.declared.cluster.Cluster.{Cluster}
 use Rattle.ice_cells.specs.declared.design.DesignPad.{DesignPad}
 use Rattle.ice_cells.specs.declared.root.Root.{Root}
-use Rattle.ice_place_defs.specs.Loads.{Load, pad_loads, pads_loads, global_loads, globals_loads, clusters_give, slots_give}
+use Rattle.ice_place_defs.specs.Loads.{pad_loads, pads_loads, global_loads, globals_loads, clusters_give}
 use Rattle.ice_emit_nets.specs.Ends.{End, load_end, cell_ends, control_ends}
 use Rattle.ice_emit_nets.specs.Given.{pad_ends, global_ends, cluster_ends}
 use Rattle.ice_emit_nets.specs.Sides.{sides}

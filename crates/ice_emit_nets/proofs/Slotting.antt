@@ -1,13 +1,12 @@
 -- The slots that are noted are those of the definition.
 use Rattle.std.proofs.Common.{◌≡◌, ℕ, suc, ◌+◌, ◌<◌, drop, get_or, add-one, drop-cons, Bool, true, false, cond, Option, None, Some, List, [], ◌∷◌, ◌++◌, length, replicate, refl, ap, sym, ◌∙◌}
-use Rattle.std.specs.Prelude.{option_map, position, slice_get}
+use Rattle.std.specs.Prelude.{option_map, slice_get}
 use Rattle.std.specs.Option.{option_or, option_map_or}
 use Rattle.std.specs.List.{find, position_from}
 use Rattle.std.proofs.lemmas.List.Folds.{find-append}
 use Rattle.std.proofs.lemmas.Iterator.Adapters.{position_from-zero}
 use Rattle.ice_base.specs.declared.number.TileAt.{TileAt}
 use Rattle.ice_cells.specs.declared.cluster.Cluster.{Cluster}
-use Rattle.ice_cells.specs.declared.design.Design.{Design}
 use Rattle.ice_cells.specs.Tables.{table, is_place, put_at, keep}
 use Rattle.ice_cells.proofs.TableLaws.{scattered_kept, table_same}
 use Rattle.ice_place_defs.specs.Plan.{Plan, Slot, slot_in, in_tile, first_slot, slot_among, slot_of}

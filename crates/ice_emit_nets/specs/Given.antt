@@ -1,6 +1,5 @@
 -- The sinks that pads, global buffers and clusters give, each with the place beside it.
-use Rattle.std.specs.Prelude.{ℕ, List, [], ◌++◌, map, Option}
-use Rattle.std.specs.Option.{option_map_or}
+use Rattle.std.specs.Prelude.{ℕ, List, ◌++◌, map, Option}
 use Rattle.ice_base.specs.declared.number.TileAt.{TileAt}
 use Rattle.ice_chip.specs.Database.{Parts}
 use Rattle.ice_chip.specs.declared.rows.Pad.{Pad}

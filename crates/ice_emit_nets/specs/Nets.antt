@@ -5,7 +5,7 @@ use Rattle.std.specs.Option.{option_and_then}
 use Rattle.ice_base.specs.declared.number.WireNo.{WireNo}
 use Rattle.ice_chip.specs.Database.{Parts}
 use Rattle.ice_chip.specs.Lookups.{wire_named}
-use Rattle.ice_chip.specs.Names.{pad_input_name}
+use Rattle.ice_chip_sockets.specs.Sockets.{given_name}
 use Rattle.ice_chip.specs.WireNames.{output_name}
 use Rattle.ice_chip.specs.declared.rows.Pad.{Pad}
 use Rattle.ice_cells.specs.declared.root.Root.{Root}
@@ -18,12 +18,12 @@ use Rattle.ice_emit_nets.specs.Ends.{End, ends}
 
 -- ---- roots
 abbrev pub pad_wire : Parts → Pad → Option ℕ
-pad_wire parts pad = wire_named parts pad.tile (pad_input_name pad.pio)
+pad_wire parts pad = wire_named parts pad.tile (given_name pad.pio)
 
 abbrev pub slot_wire : Parts → Slot → Option ℕ
 slot_wire parts slot = wire_named parts slot.0 (output_name slot.1)
 
--- the wire that a root drives: the input of a pad, the output of a cell, or a global; carries are no roots of nets
+-- the wire that a root drives: the one that a pad gives its level to, the output of a cell, or a global; carries are no roots of nets
 abbrev pub root_wire : Parts → Plan → Root → Option ℕ
 root_wire parts plan (PadIn k) = option_and_then (pad_wire parts) (slice_get plan.ports k)
 root_wire parts plan (CellOut c) = option_and_then (slot_wire parts) (slot_of plan c)

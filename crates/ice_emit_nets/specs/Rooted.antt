@@ -1,5 +1,5 @@
 -- The wires of all roots.
-use Rattle.std.specs.Prelude.{Option, List, map, length, option_map}
+use Rattle.std.specs.Prelude.{Option, List, length, option_map}
 use Rattle.std.specs.Option.{option_and_then}
 use Rattle.ice_base.specs.declared.number.WireNo.{WireNo}
 use Rattle.ice_chip.specs.Database.{Parts}

@@ -3,6 +3,7 @@ ghost use Rattle.std.specs.Prelude.{◌≡◌, ◌++◌, ◌∷◌, [], map, opt
 ghost use Rattle.std.specs.List.{cons_option};
 ghost use Rattle.ice_chip.specs.Lookups.{wire_named};
 ghost use Rattle.ice_chip.specs.Names.{input_name};
+ghost use Rattle.ice_chip_sockets.specs.Sockets.{driven_name};
 ghost use Rattle.ice_place_defs.specs.Loads.{load_at};
 ghost use Rattle.ice_emit_nets.specs.Ends.{wire_no, pin_wire, pin_wires, load_end};
 ghost use Rattle.ice_emit_nets.specs.Pins.{pin_in};
@@ -10,9 +11,10 @@ ghost use Rattle.ice_emit_nets.specs.Pins.{pin_in};
 use ice_base::{NoMemory, Sink, TileAt, WireNo};
 use ice_cells::Root;
 use ice_chip::{
-    Chip, clock_enable_name, clock_name, fabout_name, input_name, output_enable_name,
-    pad_output_name, set_reset_name,
+    Chip, Pad, clock_enable_name, clock_name, fabout_name, input_name, output_enable_name,
+    set_reset_name,
 };
+use ice_chip_sockets::driven_wire;
 use std::alloc::Global;
 
 /// A pin of a tile that reads.
@@ -28,7 +30,7 @@ pub enum TilePin {
     SetReset,
     /// What feeds a global.
     Feed,
-    /// What a pad is driven with.
+    /// What a pad is driven with: one of an IO tile, or a pin of a block RAM.
     Drive(u8),
     /// What enables a pad.
     DriveEnable(u8),
@@ -49,6 +51,14 @@ fn input_wire(chip: &Chip, tile: TileAt, i: usize, input: u8) -> Option<WireNo>
     named(chip, tile, &input_name((i % 10) as u8, input))
 }
 
+// The wire that drives a pad.
+#[tactic(auto, using(crate::proofs::Targets::wire_is))]
+fn drive_wire(chip: &Chip, tile: TileAt, pio: u8) -> Option<WireNo>
+    ensures { result ≡ option_map wire_no (wire_named chip.now tile (driven_name pio)) }
+{
+    driven_wire(chip, Pad { tile, pio })
+}
+
 /// The wire of a pin, where the tile has it. It takes no memory.
 pub fn pin_wire(chip: &Chip, tile: TileAt, pin: TilePin) -> Option<WireNo>
     ensures { result ≡ pin_wire chip.now tile (pin_in pin) }
@@ -59,7 +69,7 @@ pub fn pin_wire(chip: &Chip, tile: TileAt, pin: TilePin) -> Option<WireNo>
         TilePin::Enable => named(chip, tile, &clock_enable_name()),
         TilePin::SetReset => named(chip, tile, &set_reset_name()),
         TilePin::Feed => named(chip, tile, &fabout_name()),
-        TilePin::Drive(pio) => named(chip, tile, &pad_output_name(pio)),
+        TilePin::Drive(pio) => drive_wire(chip, tile, pio),
         TilePin::DriveEnable(pio) => named(chip, tile, &output_enable_name(pio)),
     }
 }

@@ -13,14 +13,15 @@ use crate::globals::global_no;
 use crate::pins::named;
 use crate::slots::slots_of;
 use ice_base::{NoMemory, TileAt, WireNo};
-use ice_chip::{Chip, Pad, output_name, pad_input_name};
+use ice_chip::{Chip, Pad, output_name};
+use ice_chip_sockets::given_wire;
 use ice_place_defs::Placed;
 use std::alloc::Global;
 
 /// The wire that each pad, each cell and each global buffer drives, if there is one, by their numbers.
 #[derive(Drop)]
 pub struct DrivenWires {
-    /// The input of the pad of each port.
+    /// The wire that the pad of each port gives its level to.
     pub pads: Vec<Option<WireNo>>,
     /// The output of each cell.
     pub cells: Vec<Option<WireNo>>,
@@ -28,14 +29,15 @@ pub struct DrivenWires {
     pub globals: Vec<Option<WireNo>>,
 }
 
-// The input of a pad.
+// The wire that a pad gives its level to.
+#[tactic(auto, using(crate::proofs::Targets::wire_is))]
 fn pad_wire(chip: &Chip, pad: Pad) -> Option<WireNo>
     ensures { result ≡ option_map wire_no (pad_wire chip.now pad) }
 {
-    named(chip, pad.tile, &pad_input_name(pad.pio))
+    given_wire(chip, pad)
 }
 
-// The inputs of pads.
+// The wires that pads give their levels to.
 fn pad_wires(alloc: Global, chip: &Chip, ports: &[Pad]) -> Result<Vec<Option<WireNo>>, NoMemory>
     ensures { IfOk result (λ wires.
         wires.items ≡ map (λ pad. option_map wire_no (pad_wire chip.now pad)) ports.now) }

@@ -9,8 +9,11 @@ use Rattle.ice_base_values.specs.Order.{Has}
 use Rattle.ice_base_values.proofs.Members.{Has_none, map_Has}
 use Rattle.ice_chip.specs.Database.{Parts, PackageRows}
 use Rattle.ice_chip.specs.Lookups.{wire_named, placed_at}
-use Rattle.ice_chip.specs.Names.{input_name, pad_output_name, output_enable_name}
+use Rattle.ice_chip.specs.Names.{input_name, output_enable_name}
 use Rattle.ice_chip.specs.WireNames.{output_name, clock_name, clock_enable_name, set_reset_name, fabout_name}
+use Rattle.ice_chip.specs.declared.rows.Pad.{Pad}
+use Rattle.ice_chip_sockets.specs.Sockets.{is_driven}
+use Rattle.ice_chip_sockets.proofs.SocketWires.{io_wire, is_driving}
 use Rattle.ice_decode.proofs.Members.{Has_append_cases}
 use Rattle.ice_cells.specs.declared.cell.Control.{Control}
 use Rattle.ice_cells.specs.declared.cell.LogicCell.{LogicCell}
@@ -26,7 +29,6 @@ use Rattle.ice_emit_defs.specs.Slots.{IsOn, StandsIn}
 use Rattle.ice_emit_led_laws.specs.Trees.{IsOnChip}
 use Rattle.ice_emit_led_laws.proofs.Ends.{slot_given, cluster_given, load_given, pad_given, global_given, free_given, each_end}
 use Rattle.ice_emit_led_laws.proofs.Places.{on_site, slot_below, some_of}
-use Rattle.ice_emit_led_laws.proofs.Roots.{io_wire}
 use Rattle.ice_emit_led_laws.proofs.Reading.{drive_type, enable_type}
 
 module _ (parts : Parts) (rows : PackageRows) (plan : Plan) (pullups : List Bool) (on : IsOnChip parts rows plan pullups) where
@@ -62,13 +64,16 @@ module _ (parts : Parts) (rows : PackageRows) (plan : Plan) (pullups : List Bool
   at_pin : (t : TileAt) (pin : Pin) (o : Option Root) → ((root : Root) → o ≡ Some root → HasPin t pin) → (load : Load) → Has (load_at t pin o) load → IsThere load
   at_pin t pin o there load has = let l = load_given t pin o load has in subst IsThere (sym l.2) (there l.0 l.1)
 
+  driven_there : (pad : Pad) → is_driven parts pad ≡ true → HasPin pad.tile (Drive pad.pio)
+  driven_there pad e = let is = is_driving parts pad e in (is.wire, is.found)
+
   pads_there : (load : Load) → Has (pads_loads plan.ports plan.design.pads) load → IsThere load
   pads_there load has =
       let got = pad_given plan.ports plan.design.pads load has in
       let wires = on.placed.pads.wires got.0 got.2 got.1 got.4 got.3 in
       let form = on.placed.formed.pads got.0 got.2 got.4 in
       elim (Has_append_cases (load_at got.1.tile (Drive got.1.pio) got.2.drive) (load_at got.1.tile (DriveEnable got.1.pio) got.2.enable) load got.5) [
-        | inl drive ↦ at_pin got.1.tile (Drive got.1.pio) got.2.drive (λ root e. (io_wire parts got.1.tile (pad_output_name got.1.pio) (wires.output (drive_type got.2 root form e))).1) load drive
+        | inl drive ↦ at_pin got.1.tile (Drive got.1.pio) got.2.drive (λ root e. driven_there got.1 (wires.output (drive_type got.2 root form e))) load drive
         | inr enable ↦ at_pin got.1.tile (DriveEnable got.1.pio) got.2.enable (λ root e. (io_wire parts got.1.tile (output_enable_name got.1.pio) (wires.enable (enable_type got.2 root form e))).1) load enable
       ]
 

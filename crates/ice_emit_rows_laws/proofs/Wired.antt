@@ -18,7 +18,7 @@ use Rattle.ice_decode.specs.declared.driver.Switch.{Switch}
 use Rattle.ice_decode.specs.Drivers.{switch, switch_at, switch_on, switches_on, into, driver_among}
 use Rattle.ice_bits_rows.specs.Bundles.{is_private}
 use Rattle.ice_bits_rows.specs.Sound.{sets, is_alone}
-use Rattle.ice_bits_rows.specs.WireNames.{has_memory_name}
+use Rattle.ice_bits_rows.specs.WireNames.{has_strange_name}
 use Rattle.ice_emit_rows_laws.specs.Wanted.{IsRowOf, sets_of, sets_switch, set_bits, AreWanted, AreNoGroups, IsWired}
 use Rattle.ice_base_values.proofs.Members.{any_Has, Has_any, any_none}
 use Rattle.ice_emit_rows_laws.proofs.Mapped.{Has_mapped_by}
@@ -98,8 +98,8 @@ module _ (parts : Parts) (rows : HasRows parts) (numbered : AreNumbered 0 parts.
   row_of : (s : Switch) → Has wanted s → (g : SwitchGroup) × (r : SwitchRow) × IsSoundRow s g r
   row_of s has =
       let got = are.rows s has in
-      let one = and_parts (is_private parts got.0.tile got.0.wire && not (has_memory_name parts got.1.source)) (is_alone parts.groups got.0 s.row.0 got.1) got.3 in
-      let two = and_parts (is_private parts got.0.tile got.0.wire) (not (has_memory_name parts got.1.source)) one.0 in
+      let one = and_parts (is_private parts got.0.tile got.0.wire && not (has_strange_name parts got.1.source)) (is_alone parts.groups got.0 s.row.0 got.1) got.3 in
+      let two = and_parts (is_private parts got.0.tile got.0.wire) (not (has_strange_name parts got.1.source)) one.0 in
       (got.0, got.1, record { is = got.2; private = two.0; alone = one.1 })
 
   -- a switch that sets a bit of a group is of the group's bundle

@@ -41,7 +41,7 @@ use Rattle.ice_emit_set_laws.proofs.Inside.{slots_on, clusters_on}
 use Rattle.ice_emit_set_laws.proofs.Lists.{Has_range}
 use Rattle.ice_emit_set_laws.proofs.LogicTiles.{at_tile, on_logic}
 use Rattle.ice_emit_set_laws.proofs.SetAt.{set_false, set_as}
-use Rattle.ice_emit_set_laws.proofs.Told.{Case, slot_within, all, told_at, all_own, in_clusters}
+use Rattle.ice_emit_set_laws.proofs.Told.{Case, slot_within, all, told_at, all_own, in_clusters, falls_in_tile}
 
 -- ---- each entry of a table has its bit
 places_below : (j : ℕ) → j < 16 → slice_index_or table_places j 0 < 20
@@ -99,7 +99,7 @@ module _ (z : Case) (are : AreWanted z.parts z.wanted) where
       let within : i < 8 = slot_within z t stands.cluster i c stands.on stands.slot in
       let known = on_tile t stands.cluster stands.on in
       let place = logic_bit t (cell_function i) 20 k known ((z.known.lawful.functions.logic t known).cells (cell_function i) (cell_named i within)) lt in
-      set_as z.parts z.known.chip z.known.lawful (all z) (all_own z) z.wanted are (lists k (of_cell t i cell)) t (cell_function i) k place.0 (own_name z.parts t (Cell i) (λ e. cc e)) place.1 (cell_there t i c cell stands k)
+      set_as z.parts z.known.chip z.known.lawful (all z) (all_own z) z.wanted are (lists k (of_cell t i cell)) t (cell_function i) k place.0 (own_name z.parts t (Cell i) (λ e io. cc e)) place.1 (cell_there t i c cell stands k)
       (λ has.
       let other = told_at z t k (Cell i) within has in
       subst (λ (x : LogicCell). lists k (of_cell t i x) ≡ true) (same_cell t i other.0 c other.1 cell other.2 stands) other.3)
@@ -129,7 +129,7 @@ module _ (z : Case) (are : AreWanted z.parts z.wanted) where
     where
       unset : (k : ℕ) → cell_bit z.parts bits t i k ≡ false
       unset k =
-          set_false z.parts z.known.chip z.known.lawful (all z) (all_own z) z.wanted are t (cell_function i) k (own_name z.parts t (Cell i) (λ e. cc e))
+          set_false z.parts z.known.chip z.known.lawful (all z) (all_own z) z.wanted are t (cell_function i) k (own_name z.parts t (Cell i) (λ e io. cc e))
           (λ has. let other = told_at z t k (Cell i) lt has in free other.0 other.1 other.2)
 
   -- ---- tiles
@@ -152,12 +152,12 @@ module _ (z : Case) (are : AreWanted z.parts z.wanted) where
       edge : (control : Control) → cluster.control ≡ Some control → set_at z.parts bits t falling_clock_function 0 ≡ control.falling
       edge control is =
           let place = logic_bit t falling_clock_function 1 0 known (z.known.lawful.functions.logic t known).clock_edge (omega arith) in
-          set_as z.parts z.known.chip z.known.lawful (all z) (all_own z) z.wanted are control.falling t falling_clock_function 0 place.0 (own_name z.parts t FallingClock (λ e. known)) place.1
+          set_as z.parts z.known.chip z.known.lawful (all z) (all_own z) z.wanted are control.falling t falling_clock_function 0 place.0 (own_name z.parts t FallingClock (λ e io. cc (known, io))) place.1
           (λ falls.
           in_edge (setting t falling_clock_function 0)
           (subst (λ o. Has (edge_settings t o) (setting t falling_clock_function 0)) (sym is) (Has_if control.falling t falling_clock_function 0 falls)))
           (λ has.
-          let other = told_at z t 0 FallingClock tt has in
+          let other = falls_in_tile z t known (told_at z t 0 FallingClock tt has) in
           let same = same_cluster t other.0 cluster other.2 on in
           let control_is : Some other.1 ≡ Some control = sym other.3 ∙ ap (λ (x : Cluster). x.control) same ∙ is in
           ap (λ (x : Control). x.falling) (sym (same_Some other.1 control control_is)) ∙ other.4)
@@ -166,7 +166,7 @@ module _ (z : Case) (are : AreWanted z.parts z.wanted) where
       entry r run is at =
           let place = logic_bit t carry_set_function 1 0 known (z.known.lawful.functions.logic t known).first_carry (omega arith) in
           let set : is_set z.plan.design.runs r ≡ run.set = ap (λ (o : Option Run). option_map_or (λ (x : Run). x.set) o false) at in
-          set_as z.parts z.known.chip z.known.lawful (all z) (all_own z) z.wanted are run.set t carry_set_function 0 place.0 (own_name z.parts t CarrySet (λ e. cc e)) place.1
+          set_as z.parts z.known.chip z.known.lawful (all z) (all_own z) z.wanted are run.set t carry_set_function 0 place.0 (own_name z.parts t CarrySet (λ e io. cc e)) place.1
           (λ sets.
           in_carry (setting t carry_set_function 0)
           (subst (λ o. Has (carry_settings z.plan.design.runs t o) (setting t carry_set_function 0)) (sym is) (Has_if (is_set z.plan.design.runs r) t carry_set_function 0 (set ∙ sets))))

@@ -12,12 +12,16 @@ use Rattle.ice_cluster.specs.Slots.{CellsStandInOneSlot}
 use Rattle.ice_decode.specs.declared.driver.Switch.{Switch}
 use Rattle.ice_emit_rows_laws.specs.Wanted.{AreWanted, AreNoGroups, set_bits}
 use Rattle.ice_place_defs.specs.Plan.{Plan}
+use Rattle.ice_ram.specs.Ram.{Kept}
+use Rattle.ice_ram.specs.declared.setup.Setup.{Setup}
 use Rattle.ice_emit_defs.specs.Arrivals.{Held}
+use Rattle.ice_emit_defs.specs.Rams.{AreFormed}
 use Rattle.ice_emit_defs.specs.Routed.{IsPlaced}
 use Rattle.ice_emit_defs.specs.Set.{AreSet}
 use Rattle.ice_emit_set_laws.specs.SetLaws.{design_bits}
 use Rattle.ice_emit_set_laws.proofs.CellsSet.{cell_set, free_slot, tile_set}
 use Rattle.ice_emit_set_laws.proofs.PadsSet.{type_set, type_none, enabled, disabled}
+use Rattle.ice_emit_set_laws.proofs.RamsSet.{rams_set}
 use Rattle.ice_emit_set_laws.proofs.RowsSet.{passing, own}
 use Rattle.ice_emit_set_laws.proofs.SetAt.{none_grouped}
 use Rattle.ice_emit_set_laws.proofs.Told.{Known, Case, all, all_own}
@@ -33,15 +37,15 @@ known_by parts entries are found chip lawful names slots = record {
   slots = slots;
 }
 
-module _ (parts : Parts) (known : Known parts) (rows : PackageRows) (plan : Plan) (pullups : List Bool) (placed : IsPlaced parts rows plan pullups) (held : Held) (wanted : List Switch) where
+module _ (parts : Parts) (known : Known parts) (rows : PackageRows) (plan : Plan) (pullups : List Bool) (rams : List (Setup × Kept)) (placed : IsPlaced parts rows plan pullups) (held : Held) (wanted : List Switch) where
   abbrev z : Case
-  z = record { parts = parts; known = known; rows = rows; plan = plan; pullups = pullups; placed = placed; held = held; wanted = wanted }
+  z = record { parts = parts; known = known; rows = rows; plan = plan; pullups = pullups; rams = rams; placed = placed; held = held; wanted = wanted }
 
-  pub no_groups_set : AreNoGroups parts (design_bits parts plan pullups held wanted)
+  pub no_groups_set : AreNoGroups parts (design_bits parts plan pullups rams held wanted)
   no_groups_set = none_grouped parts known.chip known.lawful (all z) (all_own z)
 
-  pub design_set : AreWanted parts wanted → AreSet parts plan wanted held (set_bits parts wanted (design_bits parts plan pullups held wanted))
-  design_set are = record {
+  pub design_set : AreFormed rams → AreWanted parts wanted → AreSet parts plan rams wanted held (set_bits parts wanted (design_bits parts plan pullups rams held wanted))
+  design_set formed are = record {
     cells = cell_set z are;
     free = free_slot z are;
     tiles = tile_set z are;
@@ -51,4 +55,5 @@ module _ (parts : Parts) (known : Known parts) (rows : PackageRows) (plan : Plan
     enabled = enabled z are;
     disabled = disabled z are;
     own = own z are;
+    rams_set = rams_set z are formed;
   }

@@ -39,9 +39,9 @@ own_ram (ColumnBuffer n) = refl
 own_ram PowerUp = refl
 own_ram (RamMode place) = refl
 
--- a function that is read, where the falling clock stands in a logic tile
-pub own_name : (parts : Parts) (t : TileAt) (g : TileFunction) → (g ≡ FallingClock → kind_at parts t ≡ Some Logic) → IsOwn parts t (function_name g)
-own_name parts t g clock Io known = own_io g (λ e. let logic = clock e in cc (logic, known))
+-- a function that is read, where the falling clock stands in no IO tile
+pub own_name : (parts : Parts) (t : TileAt) (g : TileFunction) → (g ≡ FallingClock → kind_at parts t ≡ Some Io → ⊥) → IsOwn parts t (function_name g)
+own_name parts t g clock Io known = own_io g (λ e. clock e known)
 own_name parts t g clock Logic known = refl
 own_name parts t g clock RamBottom known = own_ram g
 own_name parts t g clock RamTop known = own_ram g

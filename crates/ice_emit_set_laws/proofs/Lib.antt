@@ -4,8 +4,10 @@ mod LogicTiles
 mod SetAt
 mod CellNumbers
 mod Inside
+mod RamSettings
 mod Told
 mod CellsSet
 mod PadsSet
+mod RamsSet
 mod RowsSet
 mod DesignSet

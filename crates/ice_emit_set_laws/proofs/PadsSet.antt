@@ -1,9 +1,9 @@
 -- The bits of a placed design set each pad as its ports say.
-use Rattle.std.proofs.Common.{◌≡◌, ◌⊎◌, ℕ, zero, suc, ◌<◌, ◌==◌, Bool, true, false, cond, Option, None, Some, List, [], ◌∷◌, map, filter, length, get_or, inl, inr, refl, ap, sym, ◌∙◌, subst, arith}
-use Rattle.std.specs.Prelude.{◌&&◌, not, slice_get}
+use Rattle.std.proofs.Common.{◌≡◌, ◌⊎◌, ℕ, zero, suc, ◌<◌, ◌==◌, Bool, true, false, cond, Option, None, Some, List, [], ◌∷◌, ◌++◌, map, filter, length, get_or, inl, inr, refl, ap, sym, ◌∙◌, subst, arith}
+use Rattle.std.specs.Prelude.{◌&&◌, not, slice_get, if◌then◌else◌}
 use Rattle.std.specs.List.{range_with_len}
 use Rattle.std.specs.Option.{option_and_then}
-use Rattle.std.proofs.lemmas.Bool.{and_from}
+use Rattle.std.proofs.lemmas.Bool.{and_from, lt-ltb}
 use Rattle.std.proofs.lemmas.Option.{same_Some, none-some, slice_get-get_or}
 use Rattle.ice_base.specs.declared.number.TileAt.{TileAt}
 use Rattle.ice_base.specs.declared.bit.BitAt.{BitAt}
@@ -133,9 +133,9 @@ module _ (z : Case) (are : AreWanted z.parts z.wanted) where
   pull_at : (n m j : ℕ) → n ≡ m → j < m → j < n
   pull_at n m j e lt = omega arith
 
-  type_there : (j : ℕ) (pad : Pad) (port : DesignPad) → At z.plan.ports j pad → At z.plan.design.pads j port → (k : ℕ) → k < 6 → table_bit port.pin_type k ≡ true
+  type_there : (j : ℕ) (pad : Pad) (port : DesignPad) → At z.plan.ports j pad → At z.plan.design.pads j port → pad.pio < 2 → (k : ℕ) → k < 6 → table_bit port.pin_type k ≡ true
       → Has (all z) (setting pad.tile (pin_type_function pad.pio k) 0)
-  type_there j pad port at port_at k lt set =
+  type_there j pad port at port_at below k lt set =
       let x = setting pad.tile (pin_type_function pad.pio k) 0 in
       let pullup = get_or z.pullups j false in
       let up : At z.pullups j pullup
@@ -143,15 +143,17 @@ module _ (z : Case) (are : AreWanted z.parts z.wanted) where
       let inside : Has (type_settings pad port.pin_type) x
       = Has_flat (λ m. setting_if (table_bit port.pin_type m) pad.tile (pin_type_function pad.pio m) 0) (range_with_len 0 6) k x (Has_range 6 k lt)
       (Has_if (table_bit port.pin_type k) pad.tile (pin_type_function pad.pio k) 0 set) in
+      let whole = Has_left (type_settings pad port.pin_type) (pull_up_settings z.parts pad pullup) x inside in
       in_ports z x
-      (ports_on z.parts z.plan.ports z.pullups z.plan.design.pads j pad pullup port x at up port_at (Has_left (type_settings pad port.pin_type) (pull_up_settings z.parts pad pullup) x inside))
+      (ports_on z.parts z.plan.ports z.pullups z.plan.design.pads j pad pullup port x at up port_at
+      (subst (λ b. Has (if b then type_settings pad port.pin_type ++ pull_up_settings z.parts pad pullup else []) x) (sym (lt-ltb pad.pio 2 below)) whole))
 
   type_digit : (j : ℕ) (pad : Pad) (port : DesignPad) → At z.plan.ports j pad → At z.plan.design.pads j port → IsIoPad pad → (k : ℕ) → k < 6
       → pin_type_digit z.parts bits pad k ≡ table_bit port.pin_type k
   type_digit j pad port at port_at io k lt =
       let place = type_place pad io k lt in
-      set_as z.parts z.known.chip z.known.lawful (all z) (all_own z) z.wanted are (table_bit port.pin_type k) pad.tile (pin_type_function pad.pio k) 0 place.0 (own_name z.parts pad.tile (PinType pad.pio k) (λ e. cc e)) place.1
-      (type_there j pad port at port_at k lt)
+      set_as z.parts z.known.chip z.known.lawful (all z) (all_own z) z.wanted are (table_bit port.pin_type k) pad.tile (pin_type_function pad.pio k) 0 place.0 (own_name z.parts pad.tile (PinType pad.pio k) (λ e io. cc e)) place.1
+      (type_there j pad port at port_at (pio_below pad io) k lt)
       (λ has.
       let other = told_at z pad.tile 0 (PinType pad.pio k) (pio_below pad io, lt) has in
       let same : other.0 ≡ j = z.placed.pads.apart other.0 j pad other.2 at in
@@ -165,7 +167,7 @@ module _ (z : Case) (are : AreWanted z.parts z.wanted) where
   pub type_none : (pad : Pad) → Has (pads z.parts) pad → (Has z.plan.ports pad → ⊥) → pin_type z.parts bits pad ≡ 0
   type_none pad has none =
       six_same (pin_type_digit z.parts bits pad) (λ k. false) (λ k lt.
-      set_false z.parts z.known.chip z.known.lawful (all z) (all_own z) z.wanted are pad.tile (pin_type_function pad.pio k) 0 (own_name z.parts pad.tile (PinType pad.pio k) (λ e. cc e))
+      set_false z.parts z.known.chip z.known.lawful (all z) (all_own z) z.wanted are pad.tile (pin_type_function pad.pio k) 0 (own_name z.parts pad.tile (PinType pad.pio k) (λ e io. cc e))
       (λ listed. let other = told_at z pad.tile 0 (PinType pad.pio k) (pio_below pad (io_pad pad has), lt) listed in none (other.0, other.2)))
 
   -- ---- input enables
@@ -174,7 +176,7 @@ module _ (z : Case) (are : AreWanted z.parts z.wanted) where
 
   not_disabled : (row : Pad × Pad) → Has (enables_of z.parts) row → is_read_pad (read z) row.0 ≡ true → set_at z.parts bits row.1.tile (input_enable_function row.1.pio) 0 ≡ false
   not_disabled row has reads =
-      set_false z.parts z.known.chip z.known.lawful (all z) (all_own z) z.wanted are row.1.tile (input_enable_function row.1.pio) 0 (own_name z.parts row.1.tile (InputEnable row.1.pio) (λ e. cc e))
+      set_false z.parts z.known.chip z.known.lawful (all z) (all_own z) z.wanted are row.1.tile (input_enable_function row.1.pio) 0 (own_name z.parts row.1.tile (InputEnable row.1.pio) (λ e io. cc e))
       (λ listed.
       let unneeded = told_at z row.1.tile 0 (InputEnable row.1.pio) (enable_below z row has) listed in
       let needed : is_needed (enables_of z.parts) (read z) row.1 ≡ true

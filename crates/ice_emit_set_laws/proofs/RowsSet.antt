@@ -28,7 +28,7 @@ use Rattle.ice_decode.specs.FirstFaults.{or_else, first_foreign, foreign_functio
 use Rattle.ice_decode.specs.Meaning.{global_at, lets_through, passes_global, passes}
 use Rattle.ice_bits_rows.specs.Bundles.{bundle, has_bit, is_of_other, is_of_function, is_shared, shares_bit, is_private}
 use Rattle.ice_bits_rows.specs.Sound.{is_alone}
-use Rattle.ice_bits_rows.specs.WireNames.{has_memory_name}
+use Rattle.ice_bits_rows.specs.WireNames.{has_strange_name}
 use Rattle.ice_emit_rows_laws.proofs.SoundRows.{in_bundle}
 use Rattle.ice_emit_rows_laws.specs.Settings.{sets_one, function_bits}
 use Rattle.ice_emit_rows_laws.specs.Wanted.{AreWanted, sets_switch, set_bits}
@@ -56,7 +56,7 @@ module _ (z : Case) (are : AreWanted z.parts z.wanted) where
       let x = setting served (column_buffer_function n) 0 in
       let inside : Has (buffer_settings z.parts s) x
       = subst (λ o. Has (global_settings z.parts s.tile o) x) (sym global) (subst (λ o. Has (option_map_or (buffer_at s.tile n) o []) x) (sym buffer) (Has_head x [])) in
-      set_true z.parts z.known.chip z.known.lawful (all z) (all_own z) z.wanted are served (column_buffer_function n) 0 there.0 (own_name z.parts served (ColumnBuffer n) (λ e. cc e))
+      set_true z.parts z.known.chip z.known.lawful (all z) (all_own z) z.wanted are served (column_buffer_function n) 0 there.0 (own_name z.parts served (ColumnBuffer n) (λ e io. cc e))
       (ap (option_and_then (λ (kind : TileKind). option_and_then (λ f. slice_get f.bits 0) (function_of z.parts kind (column_buffer_function n)))) holds.1 ∙ there.1)
       (in_buffers z x (Has_flat (buffer_settings z.parts) z.wanted s x has inside))
 
@@ -79,7 +79,7 @@ module _ (z : Case) (are : AreWanted z.parts z.wanted) where
       let row = row_bit z.parts z.known.chip z.known.lawful z.wanted are t b s want set in
       let g = row.group in
       let private : is_private z.parts g.tile g.wire ≡ true
-      = private_bundle (is_private z.parts g.tile g.wire) (not (has_memory_name z.parts row.row.source)) (is_alone z.parts.groups g s.row.0 row.row) row.sound in
+      = private_bundle (is_private z.parts g.tile g.wire) (not (has_strange_name z.parts row.row.source)) (is_alone z.parts.groups g s.row.0 row.row) row.sound in
       let holds : has_bit f.bits b ≡ true = Has_any (λ p. same_place p b) f.bits b at.0 at.1 (place_self b) in
       let of : is_of_function z.parts.functions (Some kind) b ≡ true
       = Has_any (λ (x : FunctionRow). same_kind x.kind kind && is_foreign x.kind x.name && has_bit x.bits b) z.parts.functions f has.0 has.1

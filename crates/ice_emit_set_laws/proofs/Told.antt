@@ -1,36 +1,39 @@
 -- What each setting of a placed design says.
-use Rattle.std.proofs.Common.{◌≡◌, ◌⊎◌, ℕ, zero, suc, ◌+◌, ◌-◌, ◌%◌, ◌<◌, ◌==◌, Bool, true, false, cond, Option, None, Some, List, [], ◌∷◌, ◌++◌, map, length, filter, inl, inr, refl, ap, sym, ◌∙◌, subst, arith, codes}
-use Rattle.std.specs.Prelude.{◌&&◌, not, flat_map}
-use Rattle.std.specs.List.{list_any, range_with_len}
+use Rattle.std.proofs.Common.{◌≡◌, ◌⊎◌, ℕ, zero, suc, ◌+◌, ◌-◌, ◌%◌, ◌<◌, ◌==◌, Bool, true, false, cond, Option, None, Some, List, [], ◌∷◌, ◌++◌, length, filter, inl, inr, refl, ap, sym, ◌∙◌, subst, arith, codes}
+use Rattle.std.specs.Prelude.{◌&&◌, not, nat_lt, flat_map, if◌then◌else◌}
+use Rattle.std.specs.List.{range_with_len}
 use Rattle.std.specs.Map.{lookup}
 use Rattle.std.specs.Option.{option_map_or}
-use Rattle.std.proofs.lemmas.Bool.{and_parts, eq-eqb}
+use Rattle.std.proofs.lemmas.Bool.{and_parts, eq-eqb, ltb-true}
 use Rattle.std.proofs.lemmas.Option.{same_Some}
-use Rattle.indexmap.specs.IndexSet.{insert_key, insert_all}
 use Rattle.ice_base.specs.declared.number.TileAt.{TileAt}
 use Rattle.ice_base.proofs.Booleans.{not_true}
 use Rattle.ice_base_values.specs.Order.{At, Has}
-use Rattle.ice_base_values.proofs.Members.{At_within, Has_none, Has_all, Has_any, any_Has, map_Has, filter_Has}
+use Rattle.ice_base_values.proofs.Members.{At_within, Has_none, Has_all, Has_any, filter_Has}
 use Rattle.ice_chip.specs.Database.{Parts, PackageRows, same_tile, same_pad}
 use Rattle.ice_chip.specs.FunctionNames.{function_name, tile_function, IsTileFunction, FunctionNamesAreRead, carry_set_function, pull_up_function}
 use Rattle.ice_chip.specs.Names.{pin_type_function, input_enable_function, falling_clock_function, column_buffer_function, is_global_name}
 use Rattle.ice_chip.specs.Indices.{put_first, with_first, firsts, enables_of}
 use Rattle.ice_chip.specs.IsRead.{IsChip}
 use Rattle.ice_chip.specs.Lookups.{kind_at, ieren_of, colbuf_of, names_of, enable_counts}
-use Rattle.ice_chip.specs.Within.{IsPad, ArePads, IsPackage}
+use Rattle.ice_chip.specs.Within.{ArePads}
 use Rattle.ice_chip_names.specs.declared.function_names.TileFunction.{TileFunction}
 use Rattle.ice_chip_names.specs.declared.function_names.TileFunction.TheVariants.{Cell, FallingClock, CarrySet, PinType, InputEnable, PullUp, ColumnBuffer, PowerUp, RamMode}
 use Rattle.ice_chip.specs.declared.rows.Pad.{Pad}
-use Rattle.ice_chip.specs.declared.rows.TileKind.TheVariants.{Logic}
+use Rattle.ice_chip.specs.declared.rows.TileKind.TheVariants.{Io, Logic, RamBottom, RamTop}
 use Rattle.ice_chip.specs.declared.placed.PlacedName.{PlacedName}
-use Rattle.ice_chip.proofs.Keys.{pad_same}
 use Rattle.ice_chip_names.proofs.Prefixes.{set_number}
 use Rattle.ice_chip_laws.specs.Laws.{IsLawful}
+use Rattle.ice_chip_rams.specs.Sites.{sites}
+use Rattle.ice_chip_rams.specs.declared.ram_site.RamSite.{RamSite}
+use Rattle.ice_chip_sockets.proofs.SiteFacts.{site_facts}
 use Rattle.ice_decode.specs.declared.driver.Switch.{Switch}
 use Rattle.ice_decode.specs.Meaning.{global_at}
 use Rattle.ice_decode.specs.Drivers.{number_at}
 use Rattle.ice_decode.proofs.Members.{Has_left, Has_right, Has_append_cases}
 use Rattle.ice_net.specs.Meaning.{table_bit}
+use Rattle.ice_ram.specs.Ram.{Kept}
+use Rattle.ice_ram.specs.declared.setup.Setup.{Setup}
 use Rattle.ice_cells.specs.declared.cell.Control.{Control}
 use Rattle.ice_cells.specs.declared.cell.LogicCell.{LogicCell}
 use Rattle.ice_cells.specs.declared.cluster.Cluster.{Cluster}
@@ -41,6 +44,7 @@ use Rattle.ice_place_defs.specs.Loads.{slots_give}
 use Rattle.ice_place_defs.specs.Plan.{Plan, listed}
 use Rattle.ice_emit_defs.specs.Arrivals.{Held, written_table}
 use Rattle.ice_emit_defs.specs.Functions.{setting, setting_if, cell_settings, edge_settings, is_set, carry_settings, clusters_settings, type_settings, off_setting, pull_up_settings, ports_settings, read_pads, is_needed, enable_settings, buffer_at, global_settings, buffer_settings, settings}
+use Rattle.ice_emit_defs.specs.Rams.{ram_settings, site_settings}
 use Rattle.ice_emit_defs.specs.Routed.{IsPlaced}
 use Rattle.ice_emit_defs.specs.Slots.{IsOn, StandsIn}
 use Rattle.ice_emit_set_laws.proofs.CellNumbers.{if_told, lists, named}
@@ -48,6 +52,7 @@ use Rattle.ice_emit_set_laws.proofs.FunctionKinds.{IsOwn, own_name}
 use Rattle.ice_emit_set_laws.proofs.Inside.{slots_back, clusters_back, ports_back}
 use Rattle.ice_emit_set_laws.proofs.Lists.{flat_Has, one_Has, range_Has}
 use Rattle.ice_emit_set_laws.proofs.LogicTiles.{on_logic}
+use Rattle.ice_emit_set_laws.proofs.RamSettings.{InUse, IsBehind, mode_digit_of, sites_back, ram_back}
 
 -- ---- what is known of every chip
 pub record Known (parts : Parts) : Type 0 where
@@ -57,25 +62,17 @@ pub record Known (parts : Parts) : Type 0 where
   pub enables : (pad : Pad) → lookup (same_pad pad) (enables_of parts) ≡ ieren_of parts pad
   pub slots : CellsStandInOneSlot
 
--- a placed design, what its trees hold, and the rows that are wanted
+-- a placed design, its block RAMs, what its trees hold, and the rows that are wanted
 pub record Case : Type 0 where
   pub parts : Parts
   pub known : Known parts
   pub rows : PackageRows
   pub plan : Plan
   pub pullups : List Bool
+  pub rams : List (Setup × Kept)
   pub placed : IsPlaced parts rows plan pullups
   pub held : Held
   pub wanted : List Switch
-
--- ---- pads of packages
-kept_pads : (P : Pad → Type 0) (ks xs : List Pad) → ((q : Pad) → Has ks q → P q) → ((q : Pad) → Has xs q → P q) → (q : Pad) → Has (insert_all same_pad ks xs) q → P q
-kept_pads P ks [] old new q has = old q has
-kept_pads P ks (x ∷ xs) old new q has = kept_pads P (insert_key same_pad ks x) xs (one (list_any (same_pad x) ks)) (λ p there. new p (suc there.0, there.1)) q has
-  where
-    one : (b : Bool) (p : Pad) → Has (cond b ks (ks ++ x ∷ [])) p → P p
-    one true p there = old p there
-    one false p there = elim (Has_append_cases ks (x ∷ []) p there) [ inl before ↦ old p before | inr last ↦ subst P (one_Has x p last) (new x (0, refl)) ]
 
 -- ---- rows that count
 kept_rows : {K V : Type 0} (eq : K → K → Bool) (entries rows : List (K × V)) (x : K × V) → Has (firsts eq entries rows) x → Has entries x ⊎ Has rows x
@@ -110,17 +107,27 @@ module _ (z : Case) where
   abbrev pub read : List Pad
   read = read_pads z.plan.ports z.plan.design.pads
 
+  -- the clock of a cluster, or that of the port of a block RAM that reads, or that writes
+  abbrev pub FallsInTile : TileAt → Type 0
+  FallsInTile t = (cluster : Cluster) × (control : Control) × IsOn z.plan t cluster × (cluster.control ≡ Some control) × (control.falling ≡ true)
+
+  abbrev pub FallsAbove : TileAt → Type 0
+  FallsAbove t = (used : InUse (sites z.parts) z.rams) × (t ≡ used.site.upper) × (used.ram.0.read_falls ≡ true)
+
+  abbrev pub FallsBelow : TileAt → Type 0
+  FallsBelow t = (used : InUse (sites z.parts) z.rams) × (t ≡ used.site.lower) × (used.ram.0.write_falls ≡ true)
+
   abbrev pub Told : TileAt → ℕ → TileFunction → Type 0
   Told t k (Cell i) = (c : ℕ) × (cell : LogicCell) × StandsIn z.plan t i c cell × (lists k (cell_settings z.parts z.held t i cell) ≡ true)
-  Told t k FallingClock = (cluster : Cluster) × (control : Control) × IsOn z.plan t cluster × (cluster.control ≡ Some control) × (control.falling ≡ true)
+  Told t k FallingClock = FallsInTile t ⊎ (FallsAbove t ⊎ FallsBelow t)
   Told t k CarrySet = (cluster : Cluster) × (r : ℕ) × IsOn z.plan t cluster × (cluster.run ≡ Some (r, zero)) × (is_set z.plan.design.runs r ≡ true)
   Told t k (PinType pio digit) =
       (j : ℕ) × (port : DesignPad) × At z.plan.ports j (record { tile = t; pio = pio }) × At z.plan.design.pads j port × (table_bit port.pin_type digit ≡ true)
   Told t k (InputEnable pio) = is_needed (enables_of z.parts) read (record { tile = t; pio = pio }) ≡ false
   Told t k (PullUp pio) = Unit {0}
   Told t k (ColumnBuffer n) = Unit {0}
-  Told t k PowerUp = Unit {0}
-  Told t k (RamMode place) = Unit {0}
+  Told t k PowerUp = (s : RamSite) × IsBehind (sites z.parts) z.rams s × (t ≡ s.lower)
+  Told t k (RamMode place) = (used : InUse (sites z.parts) z.rams) × (t ≡ used.site.upper) × (mode_digit_of used.ram.0 place ≡ true)
 
   pub record IsTold (x : Setting) : Type 0 where
     pub function : TileFunction
@@ -167,7 +174,7 @@ module _ (z : Case) where
       by : (o : Option Control) → cluster.control ≡ o → Has (edge_settings t o) x → IsTold x
       by None is there = absurd (Has_none x there)
       by (Some control) is there =
-          let one = if_told control.falling t falling_clock_function 0 x there in told_by x t 0 FallingClock one.1 tt (cluster, control, on, is, one.0)
+          let one = if_told control.falling t falling_clock_function 0 x there in told_by x t 0 FallingClock one.1 tt (inl (cluster, control, on, is, one.0))
 
   told_carry : (t : TileAt) (cluster : Cluster) → IsOn z.plan t cluster → (x : Setting) → Has (carry_settings z.plan.design.runs t cluster.run) x → IsTold x
   told_carry t cluster on x has = by cluster.run refl has
@@ -192,25 +199,11 @@ module _ (z : Case) where
       ]
 
   -- ---- ports
-  bonded_below : (q : Pad) → Has z.rows.pads q → q.pio < 2
-  bonded_below q has =
-      let form : IsPackage z.parts.width z.parts.height z.rows = Has_all (IsPackage z.parts.width z.parts.height) z.parts.packages z.rows z.known.chip.read.package_forms z.placed.«package» in
-      kept_pads (λ (p : Pad). p.pio < 2) [] (map (λ (pin : List ℕ × Pad). pin.1) z.rows.pins) (λ p none. absurd (Has_none p none))
-      (λ p there.
-      let pin = map_Has (λ (pin : List ℕ × Pad). pin.1) z.rows.pins p there in
-      subst (λ (r : Pad). r.pio < 2) pin.2 (Has_all (λ (pin : List ℕ × Pad). IsPad z.parts.width z.parts.height pin.1) z.rows.pins pin.0 form.pins pin.1).pio)
-      q (subst (λ (xs : List Pad). Has xs q) form.pads has)
-
-  pub port_below : (j : ℕ) (pad : Pad) → At z.plan.ports j pad → pad.pio < 2
-  port_below j pad at =
-      let one = any_Has (same_pad pad) z.rows.pads (z.placed.pads.bonded j pad at) in
-      subst (λ (p : Pad). p.pio < 2) (sym (pad_same pad one.0 one.2)) (bonded_below one.0 one.1)
-
-  told_type : (j : ℕ) (pad : Pad) (port : DesignPad) → At z.plan.ports j pad → At z.plan.design.pads j port → (x : Setting) → Has (type_settings pad port.pin_type) x → IsTold x
-  told_type j pad port pad_is port_is x has =
+  told_type : (j : ℕ) (pad : Pad) (port : DesignPad) → pad.pio < 2 → At z.plan.ports j pad → At z.plan.design.pads j port → (x : Setting) → Has (type_settings pad port.pin_type) x → IsTold x
+  told_type j pad port below pad_is port_is x has =
       let one = flat_Has (λ k. setting_if (table_bit port.pin_type k) pad.tile (pin_type_function pad.pio k) 0) (range_with_len 0 6) x has in
       let set = if_told (table_bit port.pin_type one.0) pad.tile (pin_type_function pad.pio one.0) 0 x one.2 in
-      told_by x pad.tile 0 (PinType pad.pio one.0) set.1 (port_below j pad pad_is, range_Has 6 one.0 one.1) (j, port, pad_is, port_is, set.0)
+      told_by x pad.tile 0 (PinType pad.pio one.0) set.1 (below, range_Has 6 one.0 one.1) (j, port, pad_is, port_is, set.0)
 
   told_pull_up : (pad : Pad) (pullup : Bool) (x : Setting) → Has (pull_up_settings z.parts pad pullup) x → IsTold x
   told_pull_up pad true x has = absurd (Has_none x has)
@@ -224,10 +217,15 @@ module _ (z : Case) where
   told_ports : (x : Setting) → Has (ports_settings z.parts z.plan.ports z.pullups z.plan.design.pads) x → IsTold x
   told_ports x has =
       let at = ports_back z.parts z.plan.ports z.pullups z.plan.design.pads x has in
-      elim (Has_append_cases (type_settings at.pad at.port.pin_type) (pull_up_settings z.parts at.pad at.pullup) x at.inside) [
-        | inl here ↦ told_type at.number at.pad at.port at.pad_is at.port_is x here
-        | inr there ↦ told_pull_up at.pad at.pullup x there
+      by at.number at.pad at.pullup at.port at.pad_is at.port_is (nat_lt at.pad.pio 2) refl at.inside
+    where
+      by : (j : ℕ) (pad : Pad) (pullup : Bool) (port : DesignPad) → At z.plan.ports j pad → At z.plan.design.pads j port
+          → (b : Bool) → nat_lt pad.pio 2 ≡ b → Has (if b then type_settings pad port.pin_type ++ pull_up_settings z.parts pad pullup else []) x → IsTold x
+      by j pad pullup port pad_is port_is true below inside = elim (Has_append_cases (type_settings pad port.pin_type) (pull_up_settings z.parts pad pullup) x inside) [
+        | inl here ↦ told_type j pad port (ltb-true pad.pio 2 below) pad_is port_is x here
+        | inr there ↦ told_pull_up pad pullup x there
       ]
+      by j pad pullup port pad_is port_is false past inside = absurd (Has_none x inside)
 
   -- ---- input enables
   pub enable_below : (row : Pad × Pad) → Has (enables_of z.parts) row → row.1.pio < 2
@@ -260,9 +258,25 @@ module _ (z : Case) where
       let s = one.0 in
       told_buffer s.tile (global_at s.tile (names_of z.parts s.source.0)) (λ n e. global_below s.tile (names_of z.parts s.source.0) n e) x one.2
 
+  -- ---- block RAMs
+  told_ram : (used : InUse (sites z.parts) z.rams) (x : Setting) → Has (ram_settings used.site used.ram.0) x → IsTold x
+  told_ram used x has = elim (ram_back used.site used.ram.0 x has) [
+    | inl mode ↦ told_by x used.site.upper 0 (RamMode mode.0) mode.3 mode.1 (used, refl, mode.2)
+    | inr edge ↦ elim edge [
+      | inl read ↦ told_by x used.site.upper 0 FallingClock read.1 tt (inr (inl (used, refl, read.0)))
+      | inr written ↦ told_by x used.site.lower 0 FallingClock written.1 tt (inr (inr (used, refl, written.0)))
+    ]
+  ]
+
+  told_rams : (x : Setting) → Has (site_settings (sites z.parts) z.rams) x → IsTold x
+  told_rams x has = elim (sites_back (sites z.parts) z.rams x has) [
+    | inl used ↦ told_ram used.0 x used.1
+    | inr other ↦ told_by x other.0.lower 0 PowerUp other.2 tt (other.0, other.1, refl)
+  ]
+
   -- ---- all of them
   abbrev pub all : List Setting
-  all = settings z.parts z.plan z.pullups z.held z.wanted
+  all = settings z.parts z.plan z.pullups z.rams z.held z.wanted
 
   abbrev of_clusters : List Setting
   of_clusters = clusters_settings z.parts z.held z.plan.design z.plan.at z.plan.clusters
@@ -276,15 +290,24 @@ module _ (z : Case) where
   abbrev of_buffers : List Setting
   of_buffers = flat_map (buffer_settings z.parts) z.wanted
 
+  abbrev pub of_rams : List Setting
+  of_rams = site_settings (sites z.parts) z.rams
+
+  told_first : (x : Setting) → Has (of_clusters ++ of_ports ++ of_enables) x → IsTold x
+  told_first x has = elim (Has_append_cases (of_clusters ++ of_ports) of_enables x has) [
+    | inr third ↦ told_enables x third
+    | inl two ↦ elim (Has_append_cases of_clusters of_ports x two) [
+      | inl first ↦ told_clusters x first
+      | inr second ↦ told_ports x second
+    ]
+  ]
+
   told : (x : Setting) → Has all x → IsTold x
-  told x has = elim (Has_append_cases (of_clusters ++ of_ports ++ of_enables) of_buffers x has) [
-    | inr last ↦ told_buffers x last
-    | inl three ↦ elim (Has_append_cases (of_clusters ++ of_ports) of_enables x three) [
-      | inr third ↦ told_enables x third
-      | inl two ↦ elim (Has_append_cases of_clusters of_ports x two) [
-        | inl first ↦ told_clusters x first
-        | inr second ↦ told_ports x second
-      ]
+  told x has = elim (Has_append_cases (of_clusters ++ of_ports ++ of_enables ++ of_buffers) of_rams x has) [
+    | inr last ↦ told_rams x last
+    | inl four ↦ elim (Has_append_cases (of_clusters ++ of_ports ++ of_enables) of_buffers x four) [
+      | inr fourth ↦ told_buffers x fourth
+      | inl three ↦ told_first x three
     ]
   ]
 
@@ -296,22 +319,51 @@ module _ (z : Case) where
       = same_Some x.function g (sym (z.known.names.read x.function x.within) ∙ ap tile_function (sym x.name) ∙ z.known.names.read g within) in
       subst (Told t k) same x.says
 
-  clock_on_logic : (t : TileAt) (k : ℕ) (g : TileFunction) → Told t k g → g ≡ FallingClock → kind_at z.parts t ≡ Some Logic
-  clock_on_logic t k g says e =
-      let clock = subst (Told t k) e says in
-      on_logic z.parts z.rows z.plan z.pullups z.placed t clock.0 clock.2
+  in_use_kind : (used : InUse (sites z.parts) z.rams) → (kind_at z.parts used.site.lower ≡ Some RamBottom) × (kind_at z.parts used.site.upper ≡ Some RamTop)
+  in_use_kind used = let is = site_facts z.parts used.number used.site used.site_is in (is.lower, is.upper)
+
+  -- the clock of no IO tile falls
+  clock_on_io : (t : TileAt) → Told t 0 FallingClock → kind_at z.parts t ≡ Some Io → ⊥
+  clock_on_io t (inl cluster) io = let logic = on_logic z.parts z.rows z.plan z.pullups z.placed t cluster.0 cluster.2 in cc (logic, io)
+  clock_on_io t (inr (inl above)) io = let upper = ap (kind_at z.parts) above.1 ∙ (in_use_kind above.0).1 in cc (upper, io)
+  clock_on_io t (inr (inr below)) io = let lower = ap (kind_at z.parts) below.1 ∙ (in_use_kind below.0).0 in cc (lower, io)
+
+  -- by the kind of the tile it is the clock of a cluster, or of one of the ports of a block RAM
+  pub falls_in_tile : (t : TileAt) → kind_at z.parts t ≡ Some Logic → Told t 0 FallingClock → FallsInTile t
+  falls_in_tile t logic (inl cluster) = cluster
+  falls_in_tile t logic (inr (inl above)) = let upper = ap (kind_at z.parts) above.1 ∙ (in_use_kind above.0).1 in cc (upper, logic)
+  falls_in_tile t logic (inr (inr below)) = let lower = ap (kind_at z.parts) below.1 ∙ (in_use_kind below.0).0 in cc (lower, logic)
+
+  pub falls_above : (t : TileAt) → kind_at z.parts t ≡ Some RamTop → Told t 0 FallingClock → FallsAbove t
+  falls_above t top (inl cluster) = let logic = on_logic z.parts z.rows z.plan z.pullups z.placed t cluster.0 cluster.2 in cc (logic, top)
+  falls_above t top (inr (inl above)) = above
+  falls_above t top (inr (inr below)) = let lower = ap (kind_at z.parts) below.1 ∙ (in_use_kind below.0).0 in cc (lower, top)
+
+  pub falls_below : (t : TileAt) → kind_at z.parts t ≡ Some RamBottom → Told t 0 FallingClock → FallsBelow t
+  falls_below t bottom (inl cluster) = let logic = on_logic z.parts z.rows z.plan z.pullups z.placed t cluster.0 cluster.2 in cc (logic, bottom)
+  falls_below t bottom (inr (inl above)) = let upper = ap (kind_at z.parts) above.1 ∙ (in_use_kind above.0).1 in cc (upper, bottom)
+  falls_below t bottom (inr (inr below)) = below
+
+  clock_not_io : (t : TileAt) (k : ℕ) (g : TileFunction) → Told t k g → g ≡ FallingClock → kind_at z.parts t ≡ Some Io → ⊥
+  clock_not_io t k g says e io = clock_on_io t (subst (Told t k) e says) io
 
   pub all_own : (x : Setting) → Has all x → IsOwn z.parts x.tile x.name
   all_own x has =
       let is = told x has in
-      subst (IsOwn z.parts x.tile) (sym is.name) (own_name z.parts x.tile is.function (clock_on_logic x.tile x.number is.function is.says))
+      subst (IsOwn z.parts x.tile) (sym is.name) (own_name z.parts x.tile is.function (clock_not_io x.tile x.number is.function is.says))
 
   -- ---- where settings are listed
+  in_three : (x : Setting) → Has (of_clusters ++ of_ports ++ of_enables) x → Has all x
+  in_three x has = Has_left (of_clusters ++ of_ports ++ of_enables ++ of_buffers) of_rams x (Has_left (of_clusters ++ of_ports ++ of_enables) of_buffers x has)
+
   pub in_clusters : (x : Setting) → Has of_clusters x → Has all x
-  in_clusters x has = Has_left (of_clusters ++ of_ports ++ of_enables) of_buffers x (Has_left (of_clusters ++ of_ports) of_enables x (Has_left of_clusters of_ports x has))
+  in_clusters x has = in_three x (Has_left (of_clusters ++ of_ports) of_enables x (Has_left of_clusters of_ports x has))
 
   pub in_ports : (x : Setting) → Has of_ports x → Has all x
-  in_ports x has = Has_left (of_clusters ++ of_ports ++ of_enables) of_buffers x (Has_left (of_clusters ++ of_ports) of_enables x (Has_right of_clusters of_ports x has))
+  in_ports x has = in_three x (Has_left (of_clusters ++ of_ports) of_enables x (Has_right of_clusters of_ports x has))
 
   pub in_buffers : (x : Setting) → Has of_buffers x → Has all x
-  in_buffers x has = Has_right (of_clusters ++ of_ports ++ of_enables) of_buffers x has
+  in_buffers x has = Has_left (of_clusters ++ of_ports ++ of_enables ++ of_buffers) of_rams x (Has_right (of_clusters ++ of_ports ++ of_enables) of_buffers x has)
+
+  pub in_rams : (x : Setting) → Has of_rams x → Has all x
+  in_rams x has = Has_right (of_clusters ++ of_ports ++ of_enables ++ of_buffers) of_rams x has

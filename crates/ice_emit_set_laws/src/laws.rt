@@ -5,8 +5,9 @@ use ice_chip::{Chip, function_names_are_read};
 use ice_chip_laws::chip_is_lawful;
 use ice_cluster::laws::cells_stand_in_one_slot;
 
-/// The bits of a placed design set each slot, tile and pad as its cells, clusters and ports say, whatever sound rows are turned on
-/// beside its functions: no bit of a function is one of a group of switches, and none is set of a function of a PLL or of a pair of pads.
+/// The bits of a placed design set each slot, tile and pad as its cells, clusters and ports say, and each block RAM as it is settled,
+/// whatever sound rows are turned on beside its functions: no bit of a function is one of a group of switches, and none is set of a
+/// function of a PLL, of a pair of pads or of a cascade of block RAMs.
 pub fn designs_are_set(chip: &Chip)
     ensures apart { SetsNoGroups chip.now }
     ensures set { SetsDesigns chip.now }

@@ -3,3 +3,4 @@ mod Beside
 pub mod Listed
 mod Buffered
 mod Enabling
+mod Sited

@@ -3,3 +3,4 @@ pub mod Cells
 pub mod Ports
 pub mod Enables
 pub mod Buffers
+pub mod Rams

@@ -1,12 +1,21 @@
 //! Lists of settings.
-ghost use Rattle.std.specs.Prelude.{◌≡◌, ◌++◌, ◌∷◌, [], OnOk};
+ghost use Rattle.std.specs.Prelude.{◌≡◌, ◌<◌, ◌++◌, ◌∷◌, [], OnOk};
 ghost use Rattle.ice_chip.specs.FunctionNames.{function_name};
+ghost use Rattle.ice_net.specs.Meaning.{table_bit};
 ghost use Rattle.ice_emit_defs.specs.Functions.{setting, setting_if};
 ghost use Rattle.ice_emit_settings.specs.Views.{views};
 
 use ice_base::{NoMemory, TileAt};
 use ice_chip::TileFunction;
 use ice_emit_bits::Setting;
+
+/// A digit of a number, the lowest at place 0.
+pub fn digit(number: u8, place: u8) -> bool
+    requires { place < 8 }
+    ensures { result ≡ table_bit number place }
+{
+    (number >> place) & 1 == 1
+}
 
 /// Adds a setting.
 pub fn push(

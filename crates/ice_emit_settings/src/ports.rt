@@ -1,26 +1,16 @@
 //! The settings of the pads of ports.
 ghost use Rattle.std.specs.Prelude.{◌≡◌, ◌<◌, ◌++◌, [], OnOk};
 ghost use Rattle.std.specs.Option.{option_map_or};
-ghost use Rattle.ice_chip.specs.Names.{pin_type_function};
 ghost use Rattle.ice_chip.specs.Lookups.{ieren_of};
-ghost use Rattle.ice_net.specs.Meaning.{table_bit};
-ghost use Rattle.ice_emit_defs.specs.Functions.{setting_if, type_settings, off_setting, pull_up_settings, port_settings, ports_settings};
+ghost use Rattle.ice_emit_defs.specs.Functions.{type_settings, off_setting, pull_up_settings, ports_settings};
 ghost use Rattle.ice_emit_settings.specs.Ports.{place_in, digit_settings, port_gives};
 ghost use Rattle.ice_emit_settings.specs.Views.{views};
 
-use crate::making::{push, push_if};
+use crate::making::{digit, push, push_if};
 use ice_base::NoMemory;
 use ice_cells::DesignPad;
 use ice_chip::{Chip, Pad, TileFunction};
 use ice_emit_bits::Setting;
-
-// A digit of a pin type, the lowest at place 0.
-fn digit(number: u8, place: u8) -> bool
-    requires { place < 6 }
-    ensures { result ≡ table_bit number place }
-{
-    (number >> place) & 1 == 1
-}
 
 // Adds a digit of a pin type, where it is 1.
 fn push_digit(made: &mut Vec<Setting>, pad: Pad, pin_type: u8, place: u8) -> Result<(), NoMemory>
@@ -77,7 +67,24 @@ fn push_pull_up(
     Ok(())
 }
 
-// Adds the settings of a port's pad.
+// Adds the settings of a port's pad in an IO tile.
+fn push_pad(
+    made: &mut Vec<Setting>,
+    chip: &Chip,
+    port: DesignPad,
+    pad: Pad,
+    pullup: bool,
+) -> Result<(), NoMemory>
+    ensures { OnOk result (views made.new.items ≡ views made.old.items
+        ++ (type_settings pad port.pin_type ++ pull_up_settings chip.now pad pullup)) }
+{
+    push_type(made, pad, port.pin_type)?;
+    push_pull_up(made, chip, pad, pullup)?;
+    Ok(())
+}
+
+// Adds the settings of a port's pad, unless it is a pin of a block RAM.
+#[tactic(auto, using(crate::proofs::Beside::pad_added, crate::proofs::Beside::pin_passed))]
 fn push_port(
     made: &mut Vec<Setting>,
     chip: &Chip,
@@ -88,8 +95,9 @@ fn push_port(
         (views made.new.items ≡ views made.old.items ++ port_gives chip.now port place) }
 {
     let (pad, pullup) = place;
-    push_type(made, pad, port.pin_type)?;
-    push_pull_up(made, chip, pad, pullup)?;
+    if pad.pio < 2 {
+        push_pad(made, chip, port, pad, pullup)?;
+    }
     Ok(())
 }
 
@@ -116,8 +124,8 @@ fn place_at(pads: &[Pad], pullups: &[bool], k: usize) -> Option<(Pad, bool)>
     pads.get(k).copied().zip(pullups.get(k).copied())
 }
 
-/// Adds the settings of the pads of ports: the digits of their types that are 1, and the pull-ups that are off. A port without a pad
-/// gets none.
+/// Adds the settings of the pads of ports: the digits of their types that are 1, and the pull-ups that are off. A port without a pad,
+/// or at a pin of a block RAM, gets none.
 ///
 /// # Errors
 /// Want of memory alone; some of them may be added then.

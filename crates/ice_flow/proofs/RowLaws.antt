@@ -78,10 +78,10 @@ time_answer : (t : BitsTime) (old new : Meaning) (end : Done) → IsTrueOf (time
 time_answer t old new end is status long = record {
   good = answers.good_row (time t) old new end.cause end.status is status;
   done = answers.done_row (time t) old new end.cause (timing.lawful t) (timing.alone t) is;
-  bad_chip = chip_row false (time t) timing.Then t.package_name (timing.on_bits t) old new end.cause is;
-  bad_asc = asc_row false (time t) timing.Then t.package_name (timing.on_bits t) old new end.cause is;
-  no_package = package_row false (time t) timing.Then t.package_name (timing.on_bits t) old new end.cause is;
-  bad_bits = bits_row false (time t) timing.Then t.package_name (timing.on_bits t) old new end.cause is;
+  bad_chip = chip_row true (time t) timing.Then t.package_name (timing.on_bits t) old new end.cause is;
+  bad_asc = asc_row true (time t) timing.Then t.package_name (timing.on_bits t) old new end.cause is;
+  no_package = package_row true (time t) timing.Then t.package_name (timing.on_bits t) old new end.cause is;
+  bad_bits = bits_row true (time t) timing.Then t.package_name (timing.on_bits t) old new end.cause is;
   bad_delays = timing.delays_row t old new end.cause is;
   read_fault = answers.read_fault_row (time t) old new end.cause is;
   write_fault = answers.write_fault_row (time t) old new end.cause is;

@@ -1,5 +1,5 @@
 -- The end of a command that plays or times, clause by clause.
-use Rattle.std.specs.Prelude.{true, false}
+use Rattle.std.specs.Prelude.{true}
 use Rattle.ice_desk.specs.Desk.{Meaning}
 use Rattle.ice_flow_frame.specs.declared.cause.Done.{Done}
 use Rattle.ice_flow_frame.specs.Rows.{DoneRow, GoodRow, ReadFaultRow, WriteFaultRow, TooLongRow}
@@ -42,7 +42,7 @@ pub record IsTimeAnswer (t : Time) (old new : Meaning) (end : Done) : Type 0 whe
   pub bad_chip : ChipRow (time t) old end.cause
   pub bad_asc : AscRow (time t) old end.cause
   pub no_package : PackageRow (time t) t.package_name old end.cause
-  pub bad_bits : BitsRow false (time t) t.package_name old end.cause
+  pub bad_bits : BitsRow true (time t) t.package_name old end.cause
   pub bad_delays : DelaysRow t old end.cause
   pub read_fault : ReadFaultRow (time t) old new end.cause
   pub write_fault : WriteFaultRow (time t) old new end.cause

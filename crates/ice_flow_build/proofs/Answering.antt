@@ -1,5 +1,5 @@
 -- The answers of the stages of building make its answer.
-use Rattle.std.proofs.Common.{◌≡◌, ◌⊎◌, ℕ, List, inl, inr, refl, sym, ap, ◌∙◌, subst}
+use Rattle.std.proofs.Common.{◌≡◌, ◌⊎◌, ℕ, List, [], inl, inr, refl, sym, ap, ◌∙◌, subst}
 use Rattle.std.specs.Prelude.{Result, Ok, Err}
 use Rattle.ice_net.specs.NetlistData.{NetlistData}
 use Rattle.ice_bits.specs.Configuration.{Bits as BitsAt, bits_of}
@@ -12,6 +12,7 @@ use Rattle.ice_decode.specs.Faults.{HasNoLoop}
 use Rattle.ice_negotiate_defs.specs.declared.fault.RouteFault.{RouteFault}
 use Rattle.ice_negotiate_defs.specs.declared.fault.RouteFault.TheVariants as route
 use Rattle.ice_pads.specs.Assign.{PadsData, assign_of}
+use Rattle.ice_pads.specs.declared.closing.Closing.{Closing}
 use Rattle.ice_pads.specs.declared.fault.PinFault.{PinFault}
 use Rattle.ice_place.specs.Place.{chunks_of, place_of}
 use Rattle.ice_place.specs.declared.fault.PlaceFault.{PlaceFault}
@@ -30,13 +31,20 @@ use Rattle.ice_flow_build.specs.declared.answer.Layout.{Layout}
 use Rattle.ice_flow_build.specs.declared.answer.BuildFault.{BuildFault}
 use Rattle.ice_flow_build.specs.declared.answer.BuildFault.TheVariants.{Pins, Places, Unreachable, GaveUp, Bits, NoMemory}
 
+-- what is said of pads by the netlist and its closing is said by those of the task
+said_of_task : (task : Task) (n : NetlistData) (closing : Closing) (d : Design) (found : PadsData) → n ≡ task.circuit → closing ≡ task.closing → assign_of task.parts task.name task.constraints n closing d ≡ Ok found
+    → assign_of task.parts task.name task.constraints task.circuit task.closing d ≡ Ok found
+said_of_task task n closing d found same_net same_closing said =
+    subst (λ (x : Closing). assign_of task.parts task.name task.constraints task.circuit x d ≡ Ok found) same_closing
+    (subst (λ (x : NetlistData). assign_of task.parts task.name task.constraints x closing d ≡ Ok found) same_net said)
+
 -- ---- faults of stages
 -- the places have a fault, where the pins have none
-pub lay_stops : (task : Task) (n : NetlistData) (d : Design) (found : PadsData) (fault : BuildFault) → n ≡ task.circuit → d ≡ design_of task.circuit
-    → assign_of task.parts task.name task.constraints n d ≡ Ok found → IsPlaceFault task.parts d fault → IsLayFault task fault
-lay_stops task n d found fault same_net same_design said stopped =
-    let pads_said = subst (λ (x : NetlistData). assign_of task.parts task.name task.constraints x d ≡ Ok found) same_net said in
-    by fault (subst (λ (x : Design). assign_of task.parts task.name task.constraints task.circuit x ≡ Ok found) same_design pads_said)
+pub lay_stops : (task : Task) (n : NetlistData) (closing : Closing) (d : Design) (found : PadsData) (fault : BuildFault) → n ≡ task.circuit → closing ≡ task.closing → d ≡ design_of task.circuit
+    → assign_of task.parts task.name task.constraints n closing d ≡ Ok found → IsPlaceFault task.parts d fault → IsLayFault task fault
+lay_stops task n closing d found fault same_net same_closing same_design said stopped =
+    let pads_said = said_of_task task n closing d found same_net same_closing said in
+    by fault (subst (λ (x : Design). assign_of task.parts task.name task.constraints task.circuit task.closing x ≡ Ok found) same_design pads_said)
     (subst (λ (x : Design). IsPlaceFault task.parts x fault) same_design stopped)
   where
     by : (fault : BuildFault) → pins_said task ≡ Ok found → IsPlaceFault task.parts (design_of task.circuit) fault → IsLayFault task fault
@@ -75,22 +83,23 @@ bits_stop task effort made NoMemory rings is stop = tt
 
 -- ---- what is built
 -- a design with its clusters by ranks and pads, on sites
-pub on_sites : (task : Task) (n : NetlistData) (d : Design) (found : PadsData) (layout : Layout) → n ≡ task.circuit → d ≡ design_of task.circuit → assign_of task.parts task.name task.constraints n d ≡ Ok found
+pub on_sites : (task : Task) (n : NetlistData) (closing : Closing) (d : Design) (found : PadsData) (layout : Layout) → n ≡ task.circuit → closing ≡ task.closing → d ≡ design_of task.circuit
+    → assign_of task.parts task.name task.constraints n closing d ≡ Ok found
     → layout.design ≡ d → layout.clusters ≡ clusters_by layout.ranks d → layout.pads ≡ found → IsLegal (stretches_of task.parts) (chunks_of layout.clusters.list) layout.placement → IsOnSites task layout
-on_sites task n d found layout same_net same_design said design_is clusters_are pads_are legal =
-    let said_of_net = subst (λ (x : NetlistData). assign_of task.parts task.name task.constraints x d ≡ Ok found) same_net said in
-    let said_of_pads = subst (λ (x : PadsData). assign_of task.parts task.name task.constraints task.circuit d ≡ Ok x) (sym pads_are) said_of_net in
+on_sites task n closing d found layout same_net same_closing same_design said design_is clusters_are pads_are legal =
+    let said_of_pads = subst (λ (x : PadsData). assign_of task.parts task.name task.constraints task.circuit task.closing d ≡ Ok x) (sym pads_are) (said_of_task task n closing d found same_net same_closing said) in
     record {
       design = design_is ∙ same_design;
       clusters = clusters_are ∙ ap (clusters_by layout.ranks) (sym design_is);
-      pads = subst (λ (x : Design). assign_of task.parts task.name task.constraints task.circuit x ≡ Ok layout.pads) (sym design_is) said_of_pads;
+      pads = subst (λ (x : Design). assign_of task.parts task.name task.constraints task.circuit task.closing x ≡ Ok layout.pads) (sym design_is) said_of_pads;
       legal = legal;
     }
 
-pub laid_out : (task : Task) (n : NetlistData) (d : Design) (found : PadsData) (layout : Layout) → n ≡ task.circuit → d ≡ design_of task.circuit → assign_of task.parts task.name task.constraints n d ≡ Ok found
+pub laid_out : (task : Task) (n : NetlistData) (closing : Closing) (d : Design) (found : PadsData) (layout : Layout) → n ≡ task.circuit → closing ≡ task.closing → d ≡ design_of task.circuit
+    → assign_of task.parts task.name task.constraints n closing d ≡ Ok found
     → layout.design ≡ d → layout.clusters ≡ clusters_by layout.ranks d → layout.pads ≡ found → IsSettled task.parts layout.clusters d found layout.placement → IsLaidOut task layout
-laid_out task n d found layout same_net same_design said design_is clusters_are pads_are settled =
-    let stands = on_sites task n d found layout same_net same_design said design_is clusters_are pads_are settled.legal in
+laid_out task n closing d found layout same_net same_closing same_design said design_is clusters_are pads_are settled =
+    let stands = on_sites task n closing d found layout same_net same_closing same_design said design_is clusters_are pads_are settled.legal in
     let on_pads = subst (λ (x : PadsData). IsSettled task.parts layout.clusters d x layout.placement) (sym pads_are) settled in
     record {
       design = stands.design;
@@ -99,13 +108,13 @@ laid_out task n d found layout same_net same_design said design_is clusters_are 
       placed = subst (λ (x : Design). IsSettled task.parts layout.clusters x layout.pads layout.placement) (sym design_is) on_pads;
     }
 
-pub built : (task : Task) (effort : Effort) (layout : Layout) (made : Built) → IsLaidOut task layout → StandsOn task.parts task.name layout → IsFinished task.parts effort layout made → IsBuilt task effort made
+pub built : (task : Task) (effort : Effort) (layout : Layout) (made : Built) → IsLaidOut task layout → StandsOn task.parts task.name task.closing.rams layout → IsFinished task.parts effort layout made → IsBuilt task effort made
 built task effort layout made laid stands finished = record {
   laid = subst (IsLaidOut task) (sym finished.same) laid;
-  stands = subst (StandsOn task.parts task.name) (sym finished.same) stands;
+  stands = subst (StandsOn task.parts task.name task.closing.rams) (sym finished.same) stands;
   routed = subst (λ (l : Layout). IsRouted task.parts (plan_in l) effort made.kept.items made.routed) (sym finished.same) finished.routed;
   trees = subst (λ (l : Layout). AreTrees task.parts (plan_in l) (routes_in made.routed)) (sym finished.same) finished.trees;
-  written = subst (λ (l : Layout). IsWritten task.parts (plan_in l) l.pads.pullups (routes_in made.routed) made.bits) (sym finished.same) finished.written;
+  written = subst (λ (l : Layout). IsWritten task.parts (plan_in l) l.pads.pullups [] (routes_in made.routed) made.bits) (sym finished.same) finished.written;
 }
 
 pub circuit : (n : NetlistData) (parts : Parts) (layout : Layout) (made : Built) → made.layout ≡ layout → RealisesNetlist n layout.pads.ports parts made.bits → RealisesNetlist n made.layout.pads.ports parts made.bits
@@ -124,7 +133,7 @@ one_fault : {A E : Type 0} (said : Result A E) (fault other : E) → said ≡ Er
 one_fault said fault other a b = cc
 
 pub pins_good : (task : Task) (layout : Layout) → IsLaidOut task layout → pins_said task ≡ Ok layout.pads
-pins_good task layout laid = subst (λ (d : Design). assign_of task.parts task.name task.constraints task.circuit d ≡ Ok layout.pads) laid.design laid.pads
+pins_good task layout laid = subst (λ (d : Design). assign_of task.parts task.name task.constraints task.circuit task.closing d ≡ Ok layout.pads) laid.design laid.pads
 
 pub places_good : (task : Task) (layout : Layout) (laid : IsLaidOut task layout) → places_said task ≡ Ok laid.placed.first
 places_good task layout laid = subst (λ (d : Design). place_of (stretches_of task.parts) (clusters_of d) d ≡ Ok laid.placed.first) laid.design laid.placed.is_first

@@ -18,7 +18,7 @@ use Rattle.ice_flow_build.specs.declared.answer.Layout.{Layout}
 
 -- they are as many as the roots that are read, at most: one of each signal, and the cells of the two constants
 pub layout_few : (parts : Parts) (n : NetlistData) (order : List ℕ) → IsChip parts → IsSoundInOrder n order → DesignsReadFew → PlacedNetsAreFew
-    → (name : List ℕ) (constraints : List Constraint) (layout : Layout) → IsLaidOut (task_of parts name constraints n) layout → StandsOn parts name layout
+    → (name : List ℕ) (constraints : List Constraint) (layout : Layout) → IsLaidOut (task_of parts name constraints n) layout → StandsOn parts name 0 layout
     → net_count parts (plan_in layout) ≤ length n.names + 2
 layout_few parts n order chip sound read few name constraints layout laid stands =
     let reads : ReadsAtMost (length n.names + 2) layout.design = subst (ReadsAtMost (length n.names + 2)) (sym laid.design) (read n order sound) in

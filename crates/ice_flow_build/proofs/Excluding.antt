@@ -270,8 +270,8 @@ same_layout task a b one two e =
     let placement : a.placement ≡ b.placement = ap (λ (x : Arrangement). x.placement) e in
     let design : a.design ≡ b.design = one.design ∙ sym two.design in
     let clusters : a.clusters ≡ b.clusters = one.clusters ∙ (λ i. clusters_by (ranks i) (design i)) ∙ sym two.clusters in
-    let said = subst (λ (d : Design). assign_of task.parts task.name task.constraints task.circuit d ≡ Ok a.pads) design one.pads in
-    let pads : a.pads ≡ b.pads = one_pads (assign_of task.parts task.name task.constraints task.circuit b.design) a.pads b.pads said two.pads in
+    let said = subst (λ (d : Design). assign_of task.parts task.name task.constraints task.circuit task.closing d ≡ Ok a.pads) design one.pads in
+    let pads : a.pads ≡ b.pads = one_pads (assign_of task.parts task.name task.constraints task.circuit task.closing b.design) a.pads b.pads said two.pads in
     whole a.design b.design a.ranks b.ranks a.clusters b.clusters a.pads b.pads a.placement b.placement design ranks clusters pads placement
   where
     whole : (d d' : Design) (r r' : List ℕ) (c c' : Clusters) (p p' : PadsData) (t t' : List TileAt) → d ≡ d' → r ≡ r' → c ≡ c' → p ≡ p' → t ≡ t' → layout_of d r c p t ≡ layout_of d' r' c' p' t'

@@ -15,6 +15,8 @@ use Rattle.ice_cluster.specs.Orders.{RanksGiveClusterings}
 use Rattle.ice_carry_form_laws.specs.FormLaws.{DesignsAreFormed, DesignsHaveValues}
 use Rattle.ice_pack_laws.specs.PackLaws.{IsSoundInOrder}
 use Rattle.ice_pads.specs.Assign.{PadsData, assigned, assign_of}
+use Rattle.ice_pads.specs.Closings.{open_closing}
+use Rattle.ice_pads.specs.declared.closing.Closing.{Closing}
 use Rattle.ice_pads.specs.Facts.{AssignedPadsFit}
 use Rattle.ice_pads.specs.Wants.{wants, buffers}
 use Rattle.ice_place.specs.Place.{chunks_of}
@@ -25,10 +27,10 @@ use Rattle.ice_flow_build.specs.Laid.{Task, IsLaidOut, IsOnSites, StandsOn, task
 use Rattle.ice_flow_build.specs.declared.answer.Layout.{Layout}
 
 -- where pads are assigned, the package is there
-package_there : (parts : Parts) (name : List ℕ) (constraints : List Constraint) (n : NetlistData) (d : Design) (pads : PadsData) → assign_of parts name constraints n d ≡ Ok pads → (bonded : PackageRows) × (package_of parts name ≡ Some bonded)
-package_there parts name constraints n d pads said = by (package_of parts name) said
+package_there : (parts : Parts) (name : List ℕ) (constraints : List Constraint) (n : NetlistData) (closing : Closing) (d : Design) (pads : PadsData) → assign_of parts name constraints n closing d ≡ Ok pads → (bonded : PackageRows) × (package_of parts name ≡ Some bonded)
+package_there parts name constraints n closing d pads said = by (package_of parts name) said
   where
-    by : (o : Option PackageRows) → assigned parts constraints n (wants d) (buffers d) o ≡ Ok pads → (bonded : PackageRows) × (o ≡ Some bonded)
+    by : (o : Option PackageRows) → assigned parts constraints n closing (wants d) (buffers d) o ≡ Ok pads → (bonded : PackageRows) × (o ≡ Some bonded)
     by None e = absurd (cc)
     by (Some bonded) e = (bonded, refl)
 
@@ -36,9 +38,9 @@ abbrev pub SitesAreLegal : Type 0
 SitesAreLegal = (parts : Parts) → (chunks : List (Option (ℕ × ℕ))) → (at : List TileAt) → IsLegal (stretches_of parts) chunks at → IsLegalOn parts chunks at
 
 pub stands : (parts : Parts) (n : NetlistData) (order : List ℕ) → IsChip parts → IsSoundInOrder n order → DesignsAreFormed → DesignsHaveValues → RanksGiveClusterings → AssignedPadsFit → SitesAreLegal
-    → (name : List ℕ) (constraints : List Constraint) (layout : Layout) → IsOnSites (task_of parts name constraints n) layout → StandsOn parts name layout
+    → (name : List ℕ) (constraints : List Constraint) (layout : Layout) → IsOnSites (task_of parts name constraints n) layout → StandsOn parts name 0 layout
 stands parts n order chip sound formed values ranked fit legal name constraints layout laid =
-    let there = package_there parts name constraints n layout.design layout.pads laid.pads in (
+    let there = package_there parts name constraints n (open_closing n) layout.design layout.pads laid.pads in (
       there.0,
       there.1,
       record {
@@ -47,8 +49,11 @@ stands parts n order chip sound formed values ranked fit legal name constraints 
         clusters = subst (IsClustering layout.design) (sym laid.clusters) (ranked layout.ranks layout.design);
         legal = legal parts (chunks_of layout.clusters.list) layout.placement laid.legal;
         «package» = (find_Has (λ (p : PackageRows). bytes_eq p.name name) parts.packages there.0 there.1).0;
-        pads = fit parts name constraints n layout.design there.0 layout.pads chip there.1 laid.pads;
+        rams = 0;
+        pads = fit parts name constraints n (open_closing n) layout.design there.0 layout.pads chip there.1 laid.pads;
       },
+      chip,
+      refl,
     )
 
 -- a placed design is on sites

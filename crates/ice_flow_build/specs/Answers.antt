@@ -75,18 +75,18 @@ routes_in routed = map route_of routed.trees.items
 
 -- ---- what is built
 -- The netlist is placed on pads of the package and sites of the chip, and routed within the permitted rounds, by trees that share
--- no wire; the bits of all that are set, and no others.
+-- no wire; the bits of all that are set, and no others. No block RAM is in use.
 pub record IsBuilt (task : Task) (effort : Effort) (built : Built) : Type 0 where
   pub laid : IsLaidOut task built.layout
-  pub stands : StandsOn task.parts task.name built.layout
+  pub stands : StandsOn task.parts task.name task.closing.rams built.layout
   pub routed : IsRouted task.parts (plan_in built.layout) effort built.kept.items built.routed
   pub trees : AreTrees task.parts (plan_in built.layout) (routes_in built.routed)
-  pub written : IsWritten task.parts (plan_in built.layout) built.layout.pads.pullups (routes_in built.routed) built.bits
+  pub written : IsWritten task.parts (plan_in built.layout) built.layout.pads.pullups [] (routes_in built.routed) built.bits
 
 -- ---- what is refused
 -- the pads of the ports, or the fault of the pins
 abbrev pub pins_said : Task → Result PadsData PinFault
-pins_said task = assign_of task.parts task.name task.constraints task.circuit (design_of task.circuit)
+pins_said task = assign_of task.parts task.name task.constraints task.circuit task.closing (design_of task.circuit)
 
 -- the first placement, or the fault of the places
 abbrev pub places_said : Task → Result (List TileAt) PlaceFault

@@ -4,6 +4,7 @@ use Rattle.ice_base.specs.declared.number.TileAt.{TileAt}
 use Rattle.ice_net.specs.NetlistData.{NetlistData}
 use Rattle.ice_pcf.specs.declared.constraint.Constraint.{Constraint}
 use Rattle.ice_chip.specs.Database.{Parts, PackageRows}
+use Rattle.ice_chip.specs.IsRead.{IsChip}
 use Rattle.ice_chip.specs.Lookups.{package_of}
 use Rattle.ice_cells.specs.Clusters.{clusters_of}
 use Rattle.ice_cells.specs.Ranks.{clusters_by}
@@ -15,6 +16,8 @@ use Rattle.ice_sites.specs.Stretches.{stretches_of}
 use Rattle.ice_place.specs.Place.{chunks_of, place_of}
 use Rattle.ice_place.specs.declared.arrangement.Arrangement.{Arrangement}
 use Rattle.ice_pads.specs.Assign.{PadsData, assign_of}
+use Rattle.ice_pads.specs.Closings.{open_closing}
+use Rattle.ice_pads.specs.declared.closing.Closing.{Closing}
 use Rattle.ice_place_defs.specs.Length.{length_of}
 use Rattle.ice_place_defs.specs.Plan.{Plan}
 use Rattle.ice_anneal.specs.Least.{IsSwapLeast}
@@ -22,15 +25,17 @@ use Rattle.ice_emit_nets.specs.Plans.{plan_of}
 use Rattle.ice_emit_defs.specs.Routed.{IsPlaced}
 use Rattle.ice_flow_build.specs.declared.answer.Layout.{Layout}
 
--- what is to be built: a netlist, on a package of a chip, with what constraints say of its ports
+-- what is to be built: a netlist and how it is closed, on a package of a chip, with what constraints say of its ports
 pub record Task : Type 0 where
   pub parts : Parts
   pub name : List ℕ
   pub constraints : List Constraint
   pub circuit : NetlistData
+  pub closing : Closing
 
+-- all ports of the netlist are seen from outside, and no block RAM closes it
 abbrev pub task_of : Parts → List ℕ → List Constraint → NetlistData → Task
-task_of parts name constraints n = record { parts = parts; name = name; constraints = constraints; circuit = n }
+task_of parts name constraints n = record { parts = parts; name = name; constraints = constraints; circuit = n; closing = open_closing n }
 
 -- the length of the wires, with the clusters on these tiles
 abbrev pub length_on : Parts → Clusters → Design → PadsData → List TileAt → ℕ
@@ -49,7 +54,7 @@ pub record IsSettled (parts : Parts) (clusters : Clusters) (d : Design) (pads : 
 pub record IsOnSites (task : Task) (layout : Layout) : Type 0 where
   pub design : layout.design ≡ design_of task.circuit
   pub clusters : layout.clusters ≡ clusters_by layout.ranks layout.design
-  pub pads : assign_of task.parts task.name task.constraints task.circuit layout.design ≡ Ok layout.pads
+  pub pads : assign_of task.parts task.name task.constraints task.circuit task.closing layout.design ≡ Ok layout.pads
   pub legal : IsLegal (stretches_of task.parts) (chunks_of layout.clusters.list) layout.placement
 
 abbrev pub plan_in : Layout → Plan
@@ -63,9 +68,10 @@ arrangement_in layout = record { ranks = layout.ranks; placement = layout.placem
 pub record IsLaidOut (task : Task) (layout : Layout) : Type 0 where
   pub design : layout.design ≡ design_of task.circuit
   pub clusters : layout.clusters ≡ clusters_by layout.ranks layout.design
-  pub pads : assign_of task.parts task.name task.constraints task.circuit layout.design ≡ Ok layout.pads
+  pub pads : assign_of task.parts task.name task.constraints task.circuit task.closing layout.design ≡ Ok layout.pads
   pub placed : IsSettled task.parts layout.clusters layout.design layout.pads layout.placement
 
--- it stands on the sites of the chip and the pads of the package
-abbrev pub StandsOn : Parts → List ℕ → Layout → Type 0
-StandsOn parts name layout = (bonded : PackageRows) × (package_of parts name ≡ Some bonded) × IsPlaced parts bonded (plan_in layout) layout.pads.pullups
+-- it stands on the sites of the chip, the pads of the package, and the pins of so many block RAMs
+abbrev pub StandsOn : Parts → List ℕ → ℕ → Layout → Type 0
+StandsOn parts name rams layout =
+    (bonded : PackageRows) × (package_of parts name ≡ Some bonded) × (placed : IsPlaced parts bonded (plan_in layout) layout.pads.pullups) × IsChip parts × (placed.rams ≡ rams)

@@ -1,5 +1,5 @@
 -- What the stages of building answer.
-use Rattle.std.specs.Prelude.{◌≡◌, ℕ, ◌≤◌, List, length, Err}
+use Rattle.std.specs.Prelude.{◌≡◌, ℕ, ◌≤◌, List, [], length, Err}
 use Rattle.std.specs.Global.{Vec}
 use Rattle.ice_bits.specs.Configuration.{Configuration}
 use Rattle.ice_chip.specs.Database.{Parts}
@@ -71,7 +71,7 @@ pub record IsFinished (parts : Parts) (effort : Effort) (layout : Layout) (built
   pub same : built.layout ≡ layout
   pub routed : IsRouted parts (plan_in layout) effort built.kept.items built.routed
   pub trees : AreTrees parts (plan_in layout) (routes_in built.routed)
-  pub written : IsWritten parts (plan_in layout) layout.pads.pullups (routes_in built.routed) built.bits
+  pub written : IsWritten parts (plan_in layout) layout.pads.pullups [] (routes_in built.routed) built.bits
 
 -- why it is not
 abbrev pub IsEndFault : Parts → Effort → Layout → BuildFault → Type 0

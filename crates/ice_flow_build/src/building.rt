@@ -43,7 +43,7 @@ fn build_by<G: Gate + Sync, R: Threads + Sync>(
 {
     layouts_stand_on_their_chip(index.chip, sound);
     layouts_have_few_nets(index.chip, sound);
-    realised_layouts_show_their_netlist(sound);
+    realised_layouts_show_their_netlist(index.chip, sound);
     let layout = lay_out(alloc, index, name, pcf, sound, effort.seed)?;
     let nets = nets_by_signals(alloc, index.chip, &layout, sound.netlist().signals())?;
     let built = finish(rt, alloc, index, layout, nets, effort, gate)?;

@@ -8,7 +8,7 @@ ghost use Rattle.ice_flow_build.specs.Stages.{IsBitsFault};
 use crate::answer::BuildFault;
 use ice_bits::Bits;
 use ice_chip::Chip;
-use ice_decode::decode;
+use ice_decode_circuit::decode;
 use ice_emit_meaning_laws::feeds_no_global;
 use std::alloc::Global;
 

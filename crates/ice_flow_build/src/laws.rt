@@ -1,7 +1,6 @@
 //! The laws of placed designs and of their bits. The functions do nothing: their contracts are the laws.
-ghost use Rattle.std.specs.Prelude.{ℕ, ◌+◌, ◌≤◌, List, length};
+ghost use Rattle.std.specs.Prelude.{ℕ, ◌+◌, ◌≤◌, List, [], length};
 ghost use Rattle.ice_bits.specs.Configuration.{Configuration, bits_of};
-ghost use Rattle.ice_chip.specs.Database.{Parts};
 ghost use Rattle.ice_negotiate_defs.specs.Trees.{Route};
 ghost use Rattle.ice_pcf.specs.declared.constraint.Constraint.{Constraint};
 ghost use Rattle.ice_emit_defs.specs.Realised.{Realises};
@@ -17,6 +16,7 @@ use ice_carry_form_laws::laws::{
 use ice_check::Sound;
 use ice_chip::Chip;
 use ice_cluster::laws::ranks_give_clusterings;
+use ice_emit_meaning_laws::laws::bits_without_rams;
 use ice_emit_nets_laws::laws::placed_nets_are_few;
 use ice_pads::assigned_pads_fit;
 use ice_sites::clusters_stand_on_sites;
@@ -26,7 +26,7 @@ use ice_sites::clusters_stand_on_sites;
 pub fn designs_stand_on_their_chip(chip: &Chip, sound: &Sound)
     ensures { (name : List ℕ) (constraints : List Constraint) (layout : Layout)
         → IsOnSites (task_of chip.now name constraints sound.now) layout
-        → StandsOn chip.now name layout }
+        → StandsOn chip.now name 0 layout }
 {
     chip.is_chip();
     sound.is_sound();
@@ -41,7 +41,7 @@ pub fn designs_stand_on_their_chip(chip: &Chip, sound: &Sound)
 pub fn layouts_stand_on_their_chip(chip: &Chip, sound: &Sound)
     ensures { (name : List ℕ) (constraints : List Constraint) (layout : Layout)
         → IsLaidOut (task_of chip.now name constraints sound.now) layout
-        → StandsOn chip.now name layout }
+        → StandsOn chip.now name 0 layout }
 {
     designs_stand_on_their_chip(chip, sound);
 }
@@ -62,15 +62,17 @@ pub fn layouts_have_few_nets(chip: &Chip, sound: &Sound)
 
 /// The bits of the placed and routed design of a sound netlist are a circuit that shows what the netlist shows, where they realise
 /// the design.
-pub fn realised_layouts_show_their_netlist(sound: &Sound)
-    ensures { (parts : Parts) (name : List ℕ) (constraints : List Constraint) (layout : Layout)
+pub fn realised_layouts_show_their_netlist(chip: &Chip, sound: &Sound)
+    ensures { (name : List ℕ) (constraints : List Constraint) (layout : Layout)
         (routes : List Route) (k : Configuration)
-        → IsLaidOut (task_of parts name constraints sound.now) layout → StandsOn parts name layout
-        → IsWritten parts (plan_in layout) layout.pads.pullups routes k
-        → Realises parts (plan_in layout) (wanted_rows parts (plan_in layout) routes)
+        → IsLaidOut (task_of chip.now name constraints sound.now) layout
+        → StandsOn chip.now name 0 layout
+        → IsWritten chip.now (plan_in layout) layout.pads.pullups [] routes k
+        → Realises chip.now (plan_in layout) [] (wanted_rows chip.now (plan_in layout) routes)
         (bits_of k) k.extras
-        → RealisesNetlist sound.now layout.pads.ports parts k }
+        → RealisesNetlist sound.now layout.pads.ports chip.now k }
 {
     sound.is_sound();
     designs_show_the_same();
+    bits_without_rams(chip);
 }

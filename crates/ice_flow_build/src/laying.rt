@@ -16,7 +16,7 @@ use ice_cells::{Clusters, Design};
 use ice_check::Sound;
 use ice_cluster::cluster;
 use ice_pack::pack;
-use ice_pads::{Pads, assign_by};
+use ice_pads::{Closing, Pads, assign_by};
 use ice_pcf::Pcf;
 use ice_place::first_place;
 use ice_sites::sites_by;
@@ -108,7 +108,8 @@ pub fn lay_out(
 {
     let design = design_of(alloc, sound)?;
     let clusters = cluster(alloc, &design)?;
-    let pads = assign_by(alloc, index, name, pcf, sound.netlist(), &design)?;
+    let closing = Closing::open(sound.netlist());
+    let pads = assign_by(alloc, index, name, pcf, sound.netlist(), closing, &design)?;
     let layout = lay(alloc, index, design, clusters, pads, seed)?;
     Ok(layout)
 }

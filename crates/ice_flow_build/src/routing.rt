@@ -1,5 +1,5 @@
 //! The trees and the bits of a placed design.
-ghost use Rattle.std.specs.Prelude.{◌≡◌, ◌+◌, ◌≤◌, length, IfOk, IfErr};
+ghost use Rattle.std.specs.Prelude.{◌≡◌, ◌+◌, ◌≤◌, [], length, IfOk, IfErr};
 ghost use Rattle.std.specs.Bool.{OnTrue};
 ghost use Rattle.ice_bits.specs.Configuration.{bits_of};
 ghost use Rattle.ice_decode.specs.Faults.{HasNoLoop};
@@ -166,7 +166,7 @@ pub fn route<G: Gate + Sync, R: Threads + Sync>(
     kept: &mut Vec<Kept>,
     gate: &G,
 ) -> Result<Routed, RouteFault>
-    requires placed { IsPlacedOn index.now.chip.now (plan_in layout.now) layout.now.pads.pullups }
+    requires placed { IsPlacedOn index.now.chip.now (plan_in layout.now) layout.now.pads.pullups 0 }
     requires nets { AreNetsOf index.now.chip.now (plan_in layout.now) nets.now }
     requires few { length nets.now ≤ MOST_NETS }
     requires effort { IsPermitted effort }
@@ -204,20 +204,20 @@ fn unrouted(layout: Layout, nets: u32, kept: Vec<Kept>, fault: RouteFault) -> Bu
 
 // The bits of a placed and routed design.
 fn write(alloc: Global, index: &Index<'_>, made: RoutedLayout) -> Result<Built, BuildFault>
-    requires placed { IsPlacedOn index.now.chip.now (plan_in made.layout) made.layout.pads.pullups }
+    requires placed { IsPlacedOn index.now.chip.now (plan_in made.layout) made.layout.pads.pullups 0 }
     requires trees { AreTrees index.now.chip.now (plan_in made.layout) (routes_in made.routed) }
     ensures layout { IfOk result (λ built. built.layout ≡ made.layout) }
     ensures kept { IfOk result (λ built. built.kept ≡ made.kept) }
     ensures routed { IfOk result (λ built. built.routed ≡ made.routed) }
     ensures written { IfOk result (λ built. IsWritten index.now.chip.now (plan_in made.layout)
-        made.layout.pads.pullups (routes_in made.routed) built.bits) }
+        made.layout.pads.pullups [] (routes_in made.routed) built.bits) }
     ensures loopless { IfOk result (λ built. IsRingless index.now.chip.now
         → HasNoLoop index.now.chip.now (bits_of built.bits) built.bits.extras) }
     ensures ring { IfOk result (λ built.
         FaultsAreRings index.now.chip.now (bits_of built.bits) built.bits.extras) }
     ensures realised { IfOk result (λ built.
         HasNoLoop index.now.chip.now (bits_of built.bits) built.bits.extras
-        → Realises index.now.chip.now (plan_in made.layout)
+        → Realises index.now.chip.now (plan_in made.layout) []
         (wanted_rows index.now.chip.now (plan_in made.layout) (routes_in built.routed))
         (bits_of built.bits) built.bits.extras) }
     ensures stop { IfErr result (λ fault. fault ≡ out_of_memory) }
@@ -236,6 +236,7 @@ fn write(alloc: Global, index: &Index<'_>, made: RoutedLayout) -> Result<Built, 
         &layout.clusters,
         &layout.placement,
         &layout.pads,
+        &[],
         routed.trees.as_slice(),
     ) {
         Ok(bits) => Ok(Built {
@@ -264,7 +265,7 @@ fn route_nets<G: Gate + Sync, R: Threads + Sync>(
     effort: Effort,
     gate: &G,
 ) -> Result<RoutedLayout, BuildFault>
-    requires placed { IsPlacedOn index.now.chip.now (plan_in layout) layout.pads.pullups }
+    requires placed { IsPlacedOn index.now.chip.now (plan_in layout) layout.pads.pullups 0 }
     requires nets { AreNetsOf index.now.chip.now (plan_in layout) nets.items }
     requires few { length nets.items ≤ MOST_NETS }
     requires effort { IsPermitted effort }
@@ -304,7 +305,7 @@ pub fn route_layout<G: Gate + Sync, R: Threads + Sync>(
     effort: Effort,
     gate: &G,
 ) -> Result<RoutedLayout, BuildFault>
-    requires placed { IsPlacedOn index.now.chip.now (plan_in layout) layout.pads.pullups }
+    requires placed { IsPlacedOn index.now.chip.now (plan_in layout) layout.pads.pullups 0 }
     requires effort { IsPermitted effort }
     ensures routed { IfOk result (IsRoutedLayout index.now.chip.now effort layout) }
     ensures fault { IfErr result (IsEndFault index.now.chip.now effort layout) }
@@ -328,7 +329,7 @@ pub fn finish<G: Gate + Sync, R: Threads + Sync>(
     effort: Effort,
     gate: &G,
 ) -> Result<Built, BuildFault>
-    requires placed { IsPlacedOn index.now.chip.now (plan_in layout) layout.pads.pullups }
+    requires placed { IsPlacedOn index.now.chip.now (plan_in layout) layout.pads.pullups 0 }
     requires nets { AreNetsOf index.now.chip.now (plan_in layout) nets.items }
     requires few { length nets.items ≤ MOST_NETS }
     requires effort { IsPermitted effort }
@@ -339,7 +340,7 @@ pub fn finish<G: Gate + Sync, R: Threads + Sync>(
         FaultsAreRings index.now.chip.now (bits_of built.bits) built.bits.extras) }
     ensures realised { IfOk result (λ built.
         HasNoLoop index.now.chip.now (bits_of built.bits) built.bits.extras
-        → Realises index.now.chip.now (plan_in layout)
+        → Realises index.now.chip.now (plan_in layout) []
         (wanted_rows index.now.chip.now (plan_in layout) (routes_in built.routed))
         (bits_of built.bits) built.bits.extras) }
     ensures fault { IfErr result (IsEndFault index.now.chip.now effort layout) }

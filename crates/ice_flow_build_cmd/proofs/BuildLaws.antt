@@ -134,7 +134,7 @@ rams_alone : (name : List ℕ) (effort : Effort) (parts : Parts) (constraints : 
     → rams_said circuit ≡ Err fault → NetStands name effort parts constraints circuit cause → cause ≡ BadPin fault
 rams_alone name effort parts constraints circuit fault cause sound said (inl bad) = absurd (faulty circuit.netlist bad.0 bad.3 bad.2 sound)
 rams_alone name effort parts constraints circuit fault cause sound said (inr good) =
-    fault_alone (rams_said circuit) BadPin (λ netlist. TaskStands (task_of parts name constraints (prepared_on parts netlist)) effort) fault cause said good.1
+    fault_alone (rams_said circuit) BadPin (λ netlist. TaskStands (task_of parts name constraints (prepared_on parts netlist [])) effort) fault cause said good.1
 
 pin_fault_alone : (b : Build) (t : List (List ℕ)) (fault : PinFault) (cause : Cause) → HasPinFault b.package_name fault t → StandsForBuild b.package_name (effort_of b) t cause → cause ≡ BadPin fault
 pin_fault_alone b t fault cause (inl rams) m =

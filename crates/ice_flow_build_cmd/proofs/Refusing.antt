@@ -1,5 +1,5 @@
 -- From what building answers to what the texts give, or why they are refused.
-use Rattle.std.proofs.Common.{◌≡◌, ◌≢◌, ◌⊎◌, ◌∙◌, ℕ, Bool, true, false, Option, Some, None, List, length, map, Result, Ok, Err, IfOk, IfErr, inl, inr, refl, sym, ap, subst}
+use Rattle.std.proofs.Common.{◌≡◌, ◌≢◌, ◌⊎◌, ◌∙◌, ℕ, Bool, true, false, Option, Some, None, List, [], length, map, Result, Ok, Err, IfOk, IfErr, inl, inr, refl, sym, ap, subst}
 use Rattle.std.specs.Prelude.{◌<◌, option_map}
 use Rattle.std.specs.Global.{Vec}
 use Rattle.std.proofs.lemmas.List.{length-map}
@@ -28,6 +28,7 @@ use Rattle.ice_core.specs.declared.log.RoundLog.{RoundLog}
 use Rattle.ice_decode.specs.declared.fault.DecodeFault.{DecodeFault}
 use Rattle.ice_negotiate_defs.specs.Trees.{route_of}
 use Rattle.ice_pads.specs.Assign.{assign_of, IsGivenAlike}
+use Rattle.ice_pads.specs.Closings.{open_closing}
 use Rattle.ice_pads.specs.declared.fault.PinFault.{PinFault}
 use Rattle.ice_pads.specs.declared.fault.PinFault.TheVariants.{TooManyRams}
 use Rattle.ice_pcf.specs.Grammar.{pin_text_says}
@@ -181,13 +182,13 @@ rams_unread b t parts constraints circuit need cause read says sound long some (
     let is : IsPinRefusal fault cause = inr (told, rams_known need 0) in (
       pin_refused (StandsForBuild name effort t) fault cause
           (λ known. net_so name effort t parts constraints circuit (BadPin fault) read says
-          (inr (sound, at_fault (rams_said circuit) BadPin (λ netlist. TaskStands (task_of parts name constraints (prepared_on parts netlist)) effort) fault (some_rams circuit need long some)))) is,
+          (inr (sound, at_fault (rams_said circuit) BadPin (λ netlist. TaskStands (task_of parts name constraints (prepared_on parts netlist [])) effort) fault (some_rams circuit need long some)))) is,
       pin_alone fault cause is,
     )
 
 -- a netlist that was read, as it is once it is checked, and prepared
 pub task_read : (name : List ℕ) (t : List (List ℕ)) (parts : Parts) (constraints : List Constraint) (sound prepared : NetlistData) → IsRead t parts constraints
-    → closed_netlist_of (text_at t 3) ≡ Ok (without_rams sound) → IsSound sound → IsFormed sound → length sound.cells < most_cells → prepared ≡ prepared_on parts sound
+    → closed_netlist_of (text_at t 3) ≡ Ok (without_rams sound) → IsSound sound → IsFormed sound → length sound.cells < most_cells → prepared ≡ prepared_on parts sound []
     → IsTaskRead name t (task_of parts name constraints prepared)
 task_read name t parts constraints sound prepared read says is_sound formed room made = record {
   is_asked = record {
@@ -198,6 +199,7 @@ task_read name t parts constraints sound prepared read says is_sound formed room
     is_circuit = says;
     is_sound = is_sound;
     is_prepared = made;
+    is_open = ap open_closing made;
   };
   is_formed = formed;
   has_room = room;
@@ -292,22 +294,22 @@ pub record StaysSo : Type 0 where
   pub given : PreparedAreGivenAlike
 
 module _ (b : Build) (t : List (List ℕ)) (task : Task) (built : Built) (asked : IsAsked b.package_name t task) (formed : IsFormed asked.circuit) (room : length asked.circuit.cells < most_cells) (stays : StaysSo) (is : IsBuilt task (effort_of b) built) where
-  pads_are : assign_of task.parts b.package_name task.constraints asked.circuit (design_of task.circuit) ≡ Ok built.layout.pads
+  pads_are : assign_of task.parts b.package_name task.constraints asked.circuit task.closing (design_of task.circuit) ≡ Ok built.layout.pads
   pads_are =
-      sym (stays.pins task.parts asked.circuit b.package_name task.constraints (design_of task.circuit) formed)
-      ∙ ap (λ (n : NetlistData). assign_of task.parts b.package_name task.constraints n (design_of task.circuit)) (sym asked.is_prepared)
-      ∙ subst (λ (name : List ℕ). assign_of task.parts name task.constraints task.circuit (design_of task.circuit) ≡ Ok built.layout.pads) asked.is_name (pins_good task built.layout is.laid)
+      sym (stays.pins task.parts asked.circuit [] b.package_name task.constraints task.closing (design_of task.circuit) formed)
+      ∙ ap (λ (n : NetlistData). assign_of task.parts b.package_name task.constraints n task.closing (design_of task.circuit)) (sym asked.is_prepared)
+      ∙ subst (λ (name : List ℕ). assign_of task.parts name task.constraints task.circuit task.closing (design_of task.circuit) ≡ Ok built.layout.pads) asked.is_name (pins_good task built.layout is.laid)
 
   -- and so are those by the design of the netlist read
-  given_read : IsGivenAlike task.parts b.package_name task.constraints asked.circuit built.layout.pads
+  given_read : IsGivenAlike task.parts b.package_name task.constraints asked.circuit task.closing built.layout.pads
   given_read =
-      stays.given task.parts asked.circuit b.package_name task.constraints built.layout.pads formed room
-      (subst (λ (n : NetlistData). assign_of task.parts b.package_name task.constraints asked.circuit (design_of n) ≡ Ok built.layout.pads) asked.is_prepared pads_are)
+      stays.given task.parts asked.circuit [] b.package_name task.constraints task.closing built.layout.pads formed room
+      (subst (λ (n : NetlistData). assign_of task.parts b.package_name task.constraints asked.circuit task.closing (design_of n) ≡ Ok built.layout.pads) asked.is_prepared pads_are)
 
   shown_read : RealisesNetlist task.circuit built.layout.pads.ports task.parts built.bits → RealisesNetlist asked.circuit built.layout.pads.ports task.parts built.bits
   shown_read shown =
-      circuit_as (prepared_on task.parts asked.circuit) asked.circuit built.layout.pads.ports task.parts built.bits refl
-      (stays.shows task.parts asked.circuit formed room)
+      circuit_as (prepared_on task.parts asked.circuit []) asked.circuit built.layout.pads.ports task.parts built.bits refl
+      (stays.shows task.parts asked.circuit [] formed room)
       (subst (λ (n : NetlistData). RealisesNetlist n built.layout.pads.ports task.parts built.bits) asked.is_prepared shown)
 
   -- the package is there
@@ -319,7 +321,7 @@ module _ (b : Build) (t : List (List ℕ)) (task : Task) (built : Built) (asked 
   pins_told =
       ap (λ (bonded : Option PackageRows). pins_text bonded task.circuit built.layout.pads.ports) named
       ∙ ap (λ (n : NetlistData). pin_text n is.stands.0 built.layout.pads.ports) asked.is_prepared
-      ∙ stays.reports task.parts asked.circuit is.stands.0 built.layout.pads.ports formed
+      ∙ stays.reports task.parts asked.circuit [] is.stands.0 built.layout.pads.ports formed
 
   -- each net has its tree
   trees_told : length built.routed.trees.items ≡ net_count task.parts (plan_in built.layout)

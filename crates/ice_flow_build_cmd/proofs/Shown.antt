@@ -1,6 +1,6 @@
 -- What was made is shown, in the words of the headline.
 use Rattle.std.proofs.Common.{◌≡◌, ◌∙◌, ℕ, zero, suc, Bool, true, false, cond, List, [], ◌∷◌, Some, length, map, refl, ap, subst}
-use Rattle.std.specs.Prelude.{replicate}
+use Rattle.std.specs.Prelude.{Ok, replicate}
 use Rattle.std.proofs.lemmas.List.{length-map}
 use Rattle.ice_base_values.specs.Order.{At, Has}
 use Rattle.ice_net.specs.NetlistData.{NetlistData}
@@ -19,13 +19,12 @@ use Rattle.ice_asc_laws.proofs.TextSays.{text_says}
 use Rattle.ice_decode.specs.Pads.{pads, level_of}
 use Rattle.ice_decode_laws.proofs.NoneFound.{no_fault}
 use Rattle.ice_cells.specs.Runs.{design_of}
-use Rattle.ice_pads.specs.Assign.{PadsData}
+use Rattle.ice_pads.specs.Assign.{PadsData, assign_of}
+use Rattle.ice_pads.specs.declared.closing.Closing.{Closing}
 use Rattle.ice_pads.specs.Constraints.{HavePads}
-use Rattle.ice_pads.proofs.HavingPads.{ports_have_pads}
+use Rattle.ice_pads.proofs.HavingPads.{all_have_pads, ports_have_pads}
 use Rattle.ice_place.specs.declared.arrangement.Arrangement.{Arrangement}
 use Rattle.ice_emit_defs.specs.Realised.{port_levels}
-use Rattle.ice_emit_defs.specs.Routed.{pads_of}
-use Rattle.ice_flow_build.specs.Laid.{plan_in}
 use Rattle.ice_flow_build.specs.Shown.{RealisesNetlist}
 use Rattle.ice_flow_frame.specs.Texts.{text_at}
 use Rattle.ice_flow_frame.specs.Told.{Told}
@@ -89,8 +88,9 @@ module _ (b : Build) (t made : List (List ℕ)) (on : Arrangement) (told : Told)
 
   have_pads : HavePads bonded g.task.constraints g.is_asked.circuit ports
   have_pads =
-      ports_have_pads g.task.parts b.package_name bonded g.task.constraints g.is_asked.circuit (design_of g.is_asked.circuit) (plan_in g.built.layout).design given
-      (pads_of (plan_in g.built.layout) g.built.layout.pads.pullups) is_package g.are_pads.1 g.is_built.stands.2.pads refl (g.is_shown.shows_same bonded.pads).pad_each
+      let each = (g.is_shown.shows_same bonded.pads).pad_each in
+      all_have_pads bonded g.task.constraints g.is_asked.circuit g.task.closing ports g.is_asked.is_open each
+      (ports_have_pads g.task.parts b.package_name bonded g.task.constraints g.is_asked.circuit g.task.closing (design_of g.is_asked.circuit) given g.is_built.stands.3 is_package g.are_pads.1 each)
 
   pub made_shown : IsShown b.package_name (text_at t 1) (text_at t 2) (text_at t 3) (asc_text g.task.parts g.built.bits)
   made_shown = record {
@@ -121,7 +121,7 @@ module _ (b : Build) (t made : List (List ℕ)) (on : Arrangement) (told : Told)
     are_constraints = g.is_asked.are_constraints;
     is_circuit = g.is_asked.is_circuit;
     is_sound = g.is_asked.is_sound;
-    are_pads = g.are_pads.1;
+    are_pads = subst (λ (closing : Closing). assign_of g.task.parts b.package_name g.task.constraints g.is_asked.circuit closing (design_of g.is_asked.circuit) ≡ Ok given) g.is_asked.is_open g.are_pads.1;
     decodes = g.is_read_back;
     shows = g.is_shown;
   }

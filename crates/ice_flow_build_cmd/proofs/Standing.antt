@@ -1,5 +1,5 @@
 -- How the texts of `build` stand, by what was read of them.
-use Rattle.std.proofs.Common.{◌≡◌, ◌∙◌, ℕ, List, Ok, inl, inr, sym, ap, subst}
+use Rattle.std.proofs.Common.{◌≡◌, ◌∙◌, ℕ, List, [], Ok, inl, inr, sym, ap, subst}
 use Rattle.ice_base.specs.declared.number.TileAt.{TileAt}
 use Rattle.ice_net.specs.NetlistData.{NetlistData}
 use Rattle.ice_ram_read.specs.ClosedNetlists.{ClosedNetlistData, closed_netlist_of, without_rams}
@@ -8,6 +8,8 @@ use Rattle.ice_check.proofs.Faulty.{faulty}
 use Rattle.ice_chip.specs.Database.{Parts}
 use Rattle.ice_chip_read.specs.Whole.{chip_says}
 use Rattle.ice_pads.specs.Assign.{PadsData}
+use Rattle.ice_pads.specs.Closings.{open_closing}
+use Rattle.ice_pads.specs.declared.closing.Closing.{Closing}
 use Rattle.ice_pcf.specs.Grammar.{pin_text_says}
 use Rattle.ice_pcf.specs.declared.constraint.Constraint.{Constraint}
 use Rattle.ice_flow_prepare.specs.Prepared.{prepared_on}
@@ -38,15 +40,20 @@ net_stands name effort t parts constraints circuit cause read e m =
     then_stands (closed_netlist_of (text_at t 3)) BadBlif (NetStands name effort parts constraints) circuit cause e (blif_stands name effort t parts constraints cause read m)
 
 sound_stands : (name : List ℕ) (effort : Effort) (parts : Parts) (constraints : List Constraint) (circuit : NetlistData) (cause : Cause) → IsSound circuit
-    → NetStands name effort parts constraints (without_rams circuit) cause → TaskStands (task_of parts name constraints (prepared_on parts circuit)) effort cause
+    → NetStands name effort parts constraints (without_rams circuit) cause → TaskStands (task_of parts name constraints (prepared_on parts circuit [])) effort cause
 sound_stands name effort parts constraints circuit cause sound (inl bad) = absurd (faulty circuit bad.0 bad.3 bad.2 sound)
 sound_stands name effort parts constraints circuit cause sound (inr good) = good.1
 
+-- a task by its parts
+abbrev whole : Parts → List ℕ → List Constraint → NetlistData → Closing → Task
+whole parts name constraints n closing = record { parts = parts; name = name; constraints = constraints; circuit = n; closing = closing }
+
 -- a task is made of what was read
-parts_of : (name : List ℕ) (t : List (List ℕ)) (task : Task) (asked : IsAsked name t task) → task_of task.parts name task.constraints (prepared_on task.parts asked.circuit) ≡ task
+parts_of : (name : List ℕ) (t : List (List ℕ)) (task : Task) (asked : IsAsked name t task) → task_of task.parts name task.constraints (prepared_on task.parts asked.circuit []) ≡ task
 parts_of name t task asked =
-    ap (λ (x : List ℕ). task_of task.parts x task.constraints (prepared_on task.parts asked.circuit)) (sym asked.is_name)
+    ap (λ (x : List ℕ). task_of task.parts x task.constraints (prepared_on task.parts asked.circuit [])) (sym asked.is_name)
     ∙ ap (λ (n : NetlistData). task_of task.parts task.name task.constraints n) (sym asked.is_prepared)
+    ∙ ap (whole task.parts task.name task.constraints task.circuit) (ap open_closing asked.is_prepared ∙ sym asked.is_open)
 
 pub task_stands : (name : List ℕ) (effort : Effort) (t : List (List ℕ)) (task : Task) (cause : Cause) → IsAsked name t task → StandsForBuild name effort t cause → TaskStands task effort cause
 task_stands name effort t task cause asked m =
@@ -97,10 +104,11 @@ one_task name t a b one other =
     let closed = one_value (closed_netlist_of (text_at t 3)) (without_rams one.circuit) (without_rams other.circuit) one.is_circuit other.is_circuit in
     let read = ap (λ (c : ClosedNetlistData). c.netlist) closed in
     let circuit = one.is_prepared ∙ prepared_same a.parts b.parts one.circuit other.circuit parts read ∙ sym other.is_prepared in
-    same a.parts b.parts a.name b.name a.constraints b.constraints a.circuit b.circuit parts (let named : name ≡ b.name = sym other.is_name in rw one.is_name named) constraints circuit
+    let closing = one.is_open ∙ ap open_closing read ∙ sym other.is_open in
+    same a.parts b.parts a.name b.name a.constraints b.constraints a.circuit b.circuit a.closing b.closing parts (let named : name ≡ b.name = sym other.is_name in rw one.is_name named) constraints circuit closing
   where
-    prepared_same : (p p' : Parts) (n n' : NetlistData) → p ≡ p' → n ≡ n' → prepared_on p n ≡ prepared_on p' n'
-    prepared_same p p' n n' e f = ap (λ (x : Parts). prepared_on x n) e ∙ ap (prepared_on p') f
+    prepared_same : (p p' : Parts) (n n' : NetlistData) → p ≡ p' → n ≡ n' → prepared_on p n [] ≡ prepared_on p' n' []
+    prepared_same p p' n n' e f = ap (λ (x : Parts). prepared_on x n []) e ∙ ap (λ (m : NetlistData). prepared_on p' m []) f
 
-    same : (p p' : Parts) (x x' : List ℕ) (c c' : List Constraint) (n n' : NetlistData) → p ≡ p' → x ≡ x' → c ≡ c' → n ≡ n' → task_of p x c n ≡ task_of p' x' c' n'
-    same p p' x x' c c' n n' e f g h = cc
+    same : (p p' : Parts) (x x' : List ℕ) (c c' : List Constraint) (n n' : NetlistData) (k k' : Closing) → p ≡ p' → x ≡ x' → c ≡ c' → n ≡ n' → k ≡ k' → whole p x c n k ≡ whole p' x' c' n' k'
+    same p p' x x' c c' n n' k k' e f g h i = cc

@@ -1,5 +1,5 @@
 -- What each cause of `build` tells of the texts.
-use Rattle.std.proofs.Common.{◌≡◌, ◌≢◌, ◌∙◌, ℕ, List, Result, Ok, Err, inl, inr, refl, sym, ap, subst}
+use Rattle.std.proofs.Common.{◌≡◌, ◌≢◌, ◌∙◌, ℕ, List, [], Result, Ok, Err, inl, inr, refl, sym, ap, subst}
 use Rattle.std.specs.Global.{Vec}
 use Rattle.ice_base.specs.declared.number.NetNo.{NetNo}
 use Rattle.ice_base.specs.declared.number.TileAt.{TileAt}
@@ -127,14 +127,14 @@ told_rams : (name : List ℕ) (effort : Effort) (t : List (List ℕ)) (parts : P
     → IsRead t parts constraints → closed_netlist_of (text_at t 3) ≡ Ok circuit → IsSound circuit.netlist → rams_said circuit ≡ said → RamsStand name effort parts constraints circuit cause
     → Told name effort t cause
 told_rams name effort t parts constraints circuit (Err fault) cause read e sound is m =
-    subst (Told name effort t) (sym (fault_alone (rams_said circuit) BadPin (λ netlist. TaskStands (task_of parts name constraints (prepared_on parts netlist)) effort) fault cause is m))
+    subst (Told name effort t) (sym (fault_alone (rams_said circuit) BadPin (λ netlist. TaskStands (task_of parts name constraints (prepared_on parts netlist [])) effort) fault cause is m))
     (inl (record { parts = parts; constraints = constraints; circuit = circuit; is_read = read; is_circuit = e; is_so = (sound, is) }))
 told_rams name effort t parts constraints circuit (Ok netlist) cause read e sound is m =
     let none = no_rams (text_at t 3) circuit netlist e is in
-    let task = task_of parts name constraints (prepared_on parts netlist) in
-    let asked : IsAsked name t task = record { circuit = netlist; is_chip = read.is_chip; is_name = refl; are_constraints = read.are_constraints; is_circuit = e ∙ ap Ok none.1; is_sound = subst IsSound none.0 sound; is_prepared = refl } in
+    let task = task_of parts name constraints (prepared_on parts netlist []) in
+    let asked : IsAsked name t task = record { circuit = netlist; is_chip = read.is_chip; is_name = refl; are_constraints = read.are_constraints; is_circuit = e ∙ ap Ok none.1; is_sound = subst IsSound none.0 sound; is_prepared = refl; is_open = refl } in
     told_pins name effort t task (pins_said task) cause asked refl
-    (then_stands (rams_said circuit) BadPin (λ found. TaskStands (task_of parts name constraints (prepared_on parts found)) effort) netlist cause is m)
+    (then_stands (rams_said circuit) BadPin (λ found. TaskStands (task_of parts name constraints (prepared_on parts found [])) effort) netlist cause is m)
 
 told_net : (name : List ℕ) (effort : Effort) (t : List (List ℕ)) (parts : Parts) (constraints : List Constraint) (circuit : ClosedNetlistData) (cause : Cause) → IsRead t parts constraints
     → closed_netlist_of (text_at t 3) ≡ Ok circuit → NetStands name effort parts constraints circuit cause → Told name effort t cause

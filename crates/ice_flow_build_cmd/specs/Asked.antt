@@ -6,6 +6,7 @@ use Rattle.ice_ram_read.specs.ClosedNetlists.{closed_netlist_of, without_rams}
 use Rattle.ice_check.specs.Sound.{IsSound}
 use Rattle.ice_chip_read.specs.Whole.{chip_says}
 use Rattle.ice_pcf.specs.Grammar.{pin_text_says}
+use Rattle.ice_pads.specs.Closings.{open_closing}
 use Rattle.ice_flow_prepare.specs.Prepared.{most_cells, prepared_on}
 use Rattle.ice_flow_build.specs.Laid.{Task}
 use Rattle.ice_flow_build.specs.declared.answer.Effort.{Effort}
@@ -54,7 +55,8 @@ pub record IsAsked (name : List ℕ) (texts : List (List ℕ)) (task : Task) : T
   pub are_constraints : pin_text_says (text_at texts 2) ≡ Ok task.constraints
   pub is_circuit : closed_netlist_of (text_at texts 3) ≡ Ok (without_rams circuit)
   pub is_sound : IsSound circuit
-  pub is_prepared : task.circuit ≡ prepared_on task.parts circuit
+  pub is_prepared : task.circuit ≡ prepared_on task.parts circuit []
+  pub is_open : task.closing ≡ open_closing circuit
 
 -- the texts say this task, and its netlist as it was read is well formed and has room for what is added
 pub record IsTaskRead (name : List ℕ) (texts : List (List ℕ)) (task : Task) : Type 0 where

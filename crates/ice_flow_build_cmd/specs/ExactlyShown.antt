@@ -12,6 +12,7 @@ use Rattle.ice_asc.specs.Grammar.{asc_in}
 use Rattle.ice_asc.specs.Text.{asc_text}
 use Rattle.ice_cells.specs.Runs.{design_of}
 use Rattle.ice_pads.specs.Assign.{PadsData, assign_of}
+use Rattle.ice_pads.specs.Closings.{open_closing}
 use Rattle.ice_place.specs.declared.arrangement.Arrangement.{Arrangement}
 use Rattle.ice_flow_build.specs.Shown.{RealisesNetlist}
 use Rattle.ice_flow_frame.specs.Texts.{text_at}
@@ -32,7 +33,7 @@ pub record IsShownExactly (name : List ℕ) (texts : List (List ℕ)) (text : Li
   pub are_constraints : pin_text_says (text_at texts 2) ≡ Ok constraints
   pub is_circuit : closed_netlist_of (text_at texts 3) ≡ Ok (without_rams circuit)
   pub is_sound : IsSound circuit
-  pub are_pads : assign_of parts name constraints circuit (design_of circuit) ≡ Ok pads
+  pub are_pads : assign_of parts name constraints circuit (open_closing circuit) (design_of circuit) ≡ Ok pads
   pub decodes : asc_in parts text ≡ Ok configuration
   pub shows : RealisesNetlist circuit pads.ports parts configuration
 

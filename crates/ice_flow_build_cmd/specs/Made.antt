@@ -35,7 +35,7 @@ pub record IsMadeByBuild (b : Build) (texts made : List (List ℕ)) (arrangement
   pub is_told : told ≡ telling built.routed.tallies built.kept
   pub are_texts : made ≡ texts_of b (asc_text task.parts built.bits) (pin_text is_asked.circuit bonded built.layout.pads.ports) (routes_text task.parts built.layout built.routed.logs.items true)
   pub is_read_back : asc_in task.parts (asc_text task.parts built.bits) ≡ Ok built.bits
-  pub are_pads : IsGivenAlike task.parts b.package_name task.constraints is_asked.circuit built.layout.pads
+  pub are_pads : IsGivenAlike task.parts b.package_name task.constraints is_asked.circuit task.closing built.layout.pads
   pub is_shown : RealisesNetlist is_asked.circuit built.layout.pads.ports task.parts built.bits
 
 -- ---- of an arrangement

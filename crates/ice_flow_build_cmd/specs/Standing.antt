@@ -1,5 +1,5 @@
 -- How the three texts of `build` stand, one look at them after another.
-use Rattle.std.specs.Prelude.{ℕ, List}
+use Rattle.std.specs.Prelude.{ℕ, List, []}
 use Rattle.ice_ram_read.specs.ClosedNetlists.{ClosedNetlistData, closed_netlist_of}
 use Rattle.ice_check.specs.Sound.{IsSound}
 use Rattle.ice_chip.specs.Database.{Parts}
@@ -38,7 +38,7 @@ TaskStands task effort = stands_by (pins_said task) BadPin (λ pads. PlacesStand
 
 -- a sound netlist: it is prepared, or has RAMs, which can't be built yet
 abbrev pub RamsStand : List ℕ → Effort → Parts → List Constraint → ClosedNetlistData → Cause → Type 0
-RamsStand name effort parts constraints circuit = stands_by (rams_said circuit) BadPin (λ netlist. TaskStands (task_of parts name constraints (prepared_on parts netlist)) effort)
+RamsStand name effort parts constraints circuit = stands_by (rams_said circuit) BadPin (λ netlist. TaskStands (task_of parts name constraints (prepared_on parts netlist [])) effort)
 
 -- a netlist that was read: it is sound, or has a fault
 abbrev pub NetStands : List ℕ → Effort → Parts → List Constraint → ClosedNetlistData → Cause → Type 0

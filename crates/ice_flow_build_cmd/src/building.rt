@@ -126,7 +126,7 @@ fn read_net(alloc: Global, chip: &Chip, texts: &Texts) -> Result<Sound, Cause>
         Err(cause) => return Err(cause),
     };
     can_be_prepared(texts, &sound);
-    match prepare(alloc, chip, sound) {
+    match prepare(alloc, chip, sound, &[]) {
         Ok(prepared) => Ok(prepared),
         Err(NoMemory) => Err(Cause::NoMemory),
     }

@@ -7,7 +7,7 @@ use Rattle.std.proofs.lemmas.Bool.{false_from_ne_true}
 use Rattle.std.proofs.lemmas.List.{get_or_append_left}
 use Rattle.ice_base_values.proofs.Members.{Has_all}
 use Rattle.ice_net.specs.declared.port.Port.{Port}
-use Rattle.ice_net.specs.Formed.{IsPortBelow, IsFormed}
+use Rattle.ice_net.specs.Formed.{IsPortBelow}
 use Rattle.ice_net.specs.NetlistData.{NetlistData, is_at}
 use Rattle.ice_pads.specs.Constraints.{is_of_signal, place_of_port, port_named, name_at, port_name, first_passing}
 
@@ -49,14 +49,14 @@ abbrev place_in : List ℕ → List (List ℕ) → ℕ
 place_in name names = position_or_len (bytes_eq name) names
 
 -- a name leads to the same port with names behind those of the netlist
-pub same_port : (n m : NetlistData) (more : List (List ℕ)) (name : List ℕ) → IsFormed n → m.ports ≡ n.ports → m.names ≡ n.names ++ more → port_named m name ≡ port_named n name
-same_port n m more name formed ports names =
+pub same_port : (n m : NetlistData) (more : List (List ℕ)) (name : List ℕ) → All (IsPortBelow (length n.names)) n.ports → m.ports ≡ n.ports → m.names ≡ n.names ++ more → port_named m name ≡ port_named n name
+same_port n m more name below ports names =
     ap (λ ps. option_and_then (place_of_port ps) (position (bytes_eq name) m.names)) ports
     ∙ ap (λ ns. option_and_then (place_of_port n.ports) (position (bytes_eq name) ns)) names
     ∙ by (nat_lt (place_in name n.names) (length n.names)) refl
   where
     behind : (b : Bool) → length n.names ≤ place_in name (n.names ++ more) → option_and_then (place_of_port n.ports) (if b then Some (place_in name (n.names ++ more)) else None) ≡ None
-    behind true le = no_port (length n.names) (place_in name (n.names ++ more)) n.ports formed.ports le 0 (length n.ports)
+    behind true le = no_port (length n.names) (place_in name (n.names ++ more)) n.ports below le 0 (length n.ports)
     behind false le = refl
 
     by : (b : Bool) → nat_lt (place_in name n.names) (length n.names) ≡ b → option_and_then (place_of_port n.ports) (position (bytes_eq name) (n.names ++ more)) ≡ option_and_then (place_of_port n.ports) (position (bytes_eq name) n.names)
@@ -77,9 +77,9 @@ same_port n m more name formed ports names =
 pub same_name : (n m : NetlistData) (more : List (List ℕ)) (s : ℕ) → s < length n.names → m.names ≡ n.names ++ more → slice_index_or m.names s [] ≡ slice_index_or n.names s []
 same_name n m more s lt names = ap (λ (ns : List (List ℕ)). slice_index_or ns s []) names ∙ get_or_append_left n.names more [] s lt
 
-pub same_port_name : (n m : NetlistData) (more : List (List ℕ)) (k : ℕ) → IsFormed n → m.ports ≡ n.ports → m.names ≡ n.names ++ more → port_name m k ≡ port_name n k
-same_port_name n m more k formed ports names = ap (λ ps. name_at m (slice_get ps k)) ports ∙ by (slice_get n.ports k) refl
+pub same_port_name : (n m : NetlistData) (more : List (List ℕ)) (k : ℕ) → All (IsPortBelow (length n.names)) n.ports → m.ports ≡ n.ports → m.names ≡ n.names ++ more → port_name m k ≡ port_name n k
+same_port_name n m more k below ports names = ap (λ ps. name_at m (slice_get ps k)) ports ∙ by (slice_get n.ports k) refl
   where
     by : (o : Option Port) → slice_get n.ports k ≡ o → name_at m o ≡ name_at n o
     by None e = refl
-    by (Some port) e = same_name n m more port.signal.0 (Has_all (IsPortBelow (length n.names)) n.ports port formed.ports (k, e)) names
+    by (Some port) e = same_name n m more port.signal.0 (Has_all (IsPortBelow (length n.names)) n.ports port below (k, e)) names

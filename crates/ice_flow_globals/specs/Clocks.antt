@@ -1,5 +1,6 @@
 -- The netlist whose clocks take the free globals of a chip.
-use Rattle.std.specs.Prelude.{ℕ, length}
+use Rattle.std.specs.Prelude.{ℕ, List, length}
+use Rattle.ice_base.specs.declared.number.SignalNo.{SignalNo}
 use Rattle.ice_net.specs.NetlistData.{NetlistData}
 use Rattle.ice_chip.specs.Database.{Parts}
 use Rattle.ice_pads.specs.Globals.{globals}
@@ -10,5 +11,6 @@ use Rattle.ice_check_promote.specs.Promoted.{promoted}
 abbrev pub free_globals : Parts → NetlistData → ℕ
 free_globals parts n = free_beside (length (globals parts)) n
 
-abbrev pub promoted_on : Parts → NetlistData → NetlistData
-promoted_on parts n = promoted n (free_globals parts n)
+-- with these outer clocks
+abbrev pub promoted_on : Parts → NetlistData → List SignalNo → NetlistData
+promoted_on parts n outer = promoted n outer (free_globals parts n)

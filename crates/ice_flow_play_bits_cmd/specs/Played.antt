@@ -50,7 +50,7 @@ pub record IsPlayed (name : List ℕ) (texts : List (List ℕ)) (text : List ℕ
   pub levels : List (List Bool)
   pub is_configured : IsConfigured true name texts parts configuration bonded
   pub levels_are : levels_of (length bonded.pads) (text_at texts 3) ≡ Ok levels
-  pub is_text : text ≡ drives_text (closed_bits_show parts configuration bonded.pads levels)
+  pub is_text : text ≡ drives_text (closed_bits_show parts configuration bonded.pads bonded.pads levels)
 
 -- what is made of the texts; nothing is placed or routed
 abbrev pub IsMadeByPlayBits : List ℕ → List (List ℕ) → List (List ℕ) → Arrangement → Told → Type 0

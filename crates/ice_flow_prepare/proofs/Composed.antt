@@ -2,6 +2,7 @@
 use Rattle.std.proofs.Common.{◌≡◌, ℕ, ◌+◌, ◌<◌, ◌≤◌, List, [], ◌++◌, length, length-append, length-take, map, take, Ok, refl, sym, ap, ◌∙◌, append_assoc, arith}
 use Rattle.std.specs.Prelude.{slice_index_or}
 use Rattle.std.proofs.lemmas.List.{length-map}
+use Rattle.ice_base.specs.declared.number.SignalNo.{SignalNo}
 use Rattle.ice_net.specs.Formed.{IsFormed}
 use Rattle.ice_net.specs.Limits.{most_signals}
 use Rattle.ice_net.specs.NetlistData.{NetlistData}
@@ -11,12 +12,12 @@ use Rattle.ice_cells.specs.declared.design.Design.{Design}
 use Rattle.ice_cells.specs.Runs.{design_of}
 use Rattle.ice_flow_globals.specs.Clocks.{free_globals, promoted_on}
 use Rattle.ice_flow_globals.proofs.Assigned.{same_pins_by, same_report_by}
-use Rattle.ice_pads.specs.Assign.{PadsData, assign_of}
+use Rattle.ice_pads.specs.Assign.{IsGivenAlike, PadsData, assign_of}
+use Rattle.ice_pads.specs.declared.closing.Closing.{Closing}
 use Rattle.ice_pcf.specs.declared.constraint.Constraint.{Constraint}
 use Rattle.ice_check_promote.specs.Promoted.{buffered_name, promoted_clocks}
 use Rattle.ice_check_promote.specs.PromotionLaws.{PromotedAreFormed}
 use Rattle.ice_check_promote.proofs.Clocks.{few_clocks}
-use Rattle.ice_pads.specs.Assign.{IsGivenAlike}
 use Rattle.ice_pads_promote_laws.specs.PadLaws.{PadsAreGivenAlike}
 use Rattle.ice_report.specs.PinReport.{pin_text}
 use Rattle.ice_carry_tails.specs.Ends.{tables_of, tailed}
@@ -30,23 +31,23 @@ use Rattle.ice_flow_prepare.proofs.Names.{few_cells}
 abbrev buffer_names : Parts → NetlistData → List (List ℕ)
 buffer_names parts n = map (λ clock. buffered_name (slice_index_or n.names clock [])) (promoted_clocks n (free_globals parts n))
 
-abbrev more_names : Parts → NetlistData → List (List ℕ)
-more_names parts n = buffer_names parts n ++ tail_names (promoted_on parts n).names (length (tables_of (promoted_on parts n)))
+abbrev more_names : Parts → NetlistData → List SignalNo → List (List ℕ)
+more_names parts n outer = buffer_names parts n ++ tail_names (promoted_on parts n outer).names (length (tables_of (promoted_on parts n outer)))
 
-names_are : (parts : Parts) (n : NetlistData) → (prepared_on parts n).names ≡ n.names ++ more_names parts n
-names_are parts n = append_assoc n.names (buffer_names parts n) (tail_names (promoted_on parts n).names (length (tables_of (promoted_on parts n))))
+names_are : (parts : Parts) (n : NetlistData) (outer : List SignalNo) → (prepared_on parts n outer).names ≡ n.names ++ more_names parts n outer
+names_are parts n outer = append_assoc n.names (buffer_names parts n) (tail_names (promoted_on parts n outer).names (length (tables_of (promoted_on parts n outer))))
 
-pub pins : (parts : Parts) (n : NetlistData) (name : List ℕ) (constraints : List Constraint) (d : Design) → IsFormed n
-    → assign_of parts name constraints (prepared_on parts n) d ≡ assign_of parts name constraints n d
-pins parts n name constraints d formed = same_pins_by n (prepared_on parts n) (more_names parts n) parts name constraints d formed refl (names_are parts n)
+pub pins : (parts : Parts) (n : NetlistData) (outer : List SignalNo) (name : List ℕ) (constraints : List Constraint) (closing : Closing) (d : Design) → IsFormed n
+    → assign_of parts name constraints (prepared_on parts n outer) closing d ≡ assign_of parts name constraints n closing d
+pins parts n outer name constraints closing d formed = same_pins_by n (prepared_on parts n outer) (more_names parts n outer) parts name constraints closing d formed refl (names_are parts n outer)
 
-pub reports : (parts : Parts) (n : NetlistData) (bonded : PackageRows) (pads : List Pad) → IsFormed n → pin_text (prepared_on parts n) bonded pads ≡ pin_text n bonded pads
-reports parts n bonded pads formed = same_report_by n (prepared_on parts n) (more_names parts n) bonded pads formed refl (names_are parts n)
+pub reports : (parts : Parts) (n : NetlistData) (outer : List SignalNo) (bonded : PackageRows) (pads : List Pad) → IsFormed n → pin_text (prepared_on parts n outer) bonded pads ≡ pin_text n bonded pads
+reports parts n outer bonded pads formed = same_report_by n (prepared_on parts n outer) (more_names parts n outer) bonded pads formed refl (names_are parts n outer)
 
 -- ---- how many they are
-promoted_few : (parts : Parts) (n : NetlistData) → length n.names ≤ most_signals → length (promoted_on parts n).names ≤ most_signals
-promoted_few parts n le =
-    let whole : length (promoted_on parts n).names ≡ length n.names + length (promoted_clocks n (free_globals parts n)) =
+promoted_few : (parts : Parts) (n : NetlistData) (outer : List SignalNo) → length n.names ≤ most_signals → length (promoted_on parts n outer).names ≤ most_signals
+promoted_few parts n outer le =
+    let whole : length (promoted_on parts n outer).names ≡ length n.names + length (promoted_clocks n (free_globals parts n)) =
     length-append n.names (buffer_names parts n) ∙ ap (λ k. length n.names + k) (length-map (promoted_clocks n (free_globals parts n)) (λ clock. buffered_name (slice_index_or n.names clock []))) in
     let room = few_clocks n (free_globals parts n) in
     omega (arith, le, room, whole)
@@ -59,23 +60,23 @@ tailed_few n le =
     let room = (can_take n).room in
     omega (arith, le, room, count, whole)
 
-pub few : (parts : Parts) (n : NetlistData) → length n.names ≤ most_signals → length (prepared_on parts n).names ≤ most_signals
-few parts n le = tailed_few (promoted_on parts n) (promoted_few parts n le)
+pub few : (parts : Parts) (n : NetlistData) (outer : List SignalNo) → length n.names ≤ most_signals → length (prepared_on parts n outer).names ≤ most_signals
+few parts n outer le = tailed_few (promoted_on parts n outer) (promoted_few parts n outer le)
 
 -- ---- pads
 -- the netlist with promoted clocks has the ports of the netlist
-promoted_pins : (parts : Parts) (n : NetlistData) (name : List ℕ) (constraints : List Constraint) (d : Design) → IsFormed n
-    → assign_of parts name constraints (promoted_on parts n) d ≡ assign_of parts name constraints n d
-promoted_pins parts n name constraints d formed = same_pins_by n (promoted_on parts n) (buffer_names parts n) parts name constraints d formed refl refl
+promoted_pins : (parts : Parts) (n : NetlistData) (outer : List SignalNo) (name : List ℕ) (constraints : List Constraint) (closing : Closing) (d : Design) → IsFormed n
+    → assign_of parts name constraints (promoted_on parts n outer) closing d ≡ assign_of parts name constraints n closing d
+promoted_pins parts n outer name constraints closing d formed = same_pins_by n (promoted_on parts n outer) (buffer_names parts n) parts name constraints closing d formed refl refl
 
-pub given : PromotedAreFormed → PadsAreGivenAlike → TailedPadsAreGivenAlike → (parts : Parts) (n : NetlistData) (name : List ℕ) (constraints : List Constraint) (pads : PadsData)
-    → IsFormed n → length n.cells < 1072000000 → assign_of parts name constraints n (design_of (prepared_on parts n)) ≡ Ok pads → IsGivenAlike parts name constraints n pads
-given are_formed promoted_alike tailed_alike parts n name constraints pads formed room e =
-    let m = promoted_on parts n in
+pub given : PromotedAreFormed → PadsAreGivenAlike → TailedPadsAreGivenAlike → (parts : Parts) (n : NetlistData) (outer : List SignalNo) (name : List ℕ) (constraints : List Constraint) (closing : Closing) (pads : PadsData)
+    → IsFormed n → length n.cells < 1072000000 → assign_of parts name constraints n closing (design_of (prepared_on parts n outer)) ≡ Ok pads → IsGivenAlike parts name constraints n closing pads
+given are_formed promoted_alike tailed_alike parts n outer name constraints closing pads formed room e =
+    let m = promoted_on parts n outer in
     let free = free_globals parts n in
     let few : length n.cells < 1073000000 = omega (arith, room) in
-    let after = are_formed n free formed few in
-    let one = tailed_alike m parts name constraints pads after (few_cells n free room) (promoted_pins parts n name constraints (design_of (prepared_on parts n)) formed ∙ e) in
-    let two = promoted_alike n free parts name constraints (record { ports = pads.ports; pullups = pads.pullups; globals = one.0.numbers; direct = one.0.direct }) formed few refl
-    (sym (promoted_pins parts n name constraints (design_of m) formed) ∙ one.1) in
+    let after = are_formed n outer free formed few in
+    let one = tailed_alike m parts name constraints closing pads after (few_cells n outer free room) (promoted_pins parts n outer name constraints closing (design_of (prepared_on parts n outer)) formed ∙ e) in
+    let two = promoted_alike n outer free parts name constraints closing (record { ports = pads.ports; pullups = pads.pullups; globals = one.0.numbers; direct = one.0.direct }) formed few refl
+    (sym (promoted_pins parts n outer name constraints closing (design_of m) formed) ∙ one.1) in
     (two.0, two.1)

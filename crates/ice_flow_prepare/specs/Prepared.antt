@@ -1,15 +1,17 @@
--- What is placed and routed of a netlist: its clocks take the globals of a chip that are free, and then the ends of its carry chains stand in
--- their runs.
+-- What is placed and routed of a netlist: its clocks take the globals of a chip that are free, also for what closes it, and then the ends of
+-- its carry chains stand in their runs.
 use Rattle.std.specs.Prelude.{◌≢◌, ◌⊎◌, ℕ, ◌<◌, List, length, All}
 use Rattle.ice_base.specs.Lines.{IsWord}
+use Rattle.ice_base.specs.declared.number.SignalNo.{SignalNo}
 use Rattle.ice_net.specs.NetlistData.{NetlistData}
 use Rattle.ice_chip.specs.Database.{Parts}
 use Rattle.ice_flow_globals.specs.Clocks.{promoted_on}
 use Rattle.ice_check_promote.specs.Promotable.{last_byte}
 use Rattle.ice_carry_tails.specs.Ends.{tailed}
 
-abbrev pub prepared_on : Parts → NetlistData → NetlistData
-prepared_on parts n = tailed (promoted_on parts n)
+-- with these outer clocks
+abbrev pub prepared_on : Parts → NetlistData → List SignalNo → NetlistData
+prepared_on parts n outer = tailed (promoted_on parts n outer)
 
 -- the cells of a netlist leave room for what is added
 abbrev pub most_cells : ℕ

@@ -13,6 +13,8 @@ use Rattle.ice_chip.specs.Database.{Parts}
 use Rattle.ice_chip_read.specs.Whole.{chip_says}
 use Rattle.ice_net.specs.NetlistData.{NetlistData}
 use Rattle.ice_pads.specs.Assign.{PadsData}
+use Rattle.ice_pads.specs.Closings.{open_closing}
+use Rattle.ice_pads.specs.declared.closing.Closing.{Closing}
 use Rattle.ice_pcf.specs.declared.constraint.Constraint.{Constraint}
 use Rattle.ice_flow_sample_cmd.specs.Samples.{chip_text, net_text, package_name, IsAsked}
 use Rattle.ice_flow_sample_cmd.specs.Standing.{IsEnd, PlacesStand, TaskStands, NetStands, BlifStands, StandsForSample}
@@ -29,11 +31,16 @@ sound_stands : (parts : Parts) (circuit : NetlistData) (cause : Cause) → IsSou
 sound_stands parts circuit cause sound (inl bad) = absurd (faulty circuit bad.0 bad.3 bad.2 sound)
 sound_stands parts circuit cause sound (inr good) = good.1
 
+-- a task by its parts
+abbrev whole : Parts → List ℕ → List Constraint → NetlistData → Closing → Task
+whole parts name constraints n closing = record { parts = parts; name = name; constraints = constraints; circuit = n; closing = closing }
+
 -- a task is made of what was read
 parts_of : (number : ℕ) (task : Task) → IsAsked number task → task_of task.parts package_name [] task.circuit ≡ task
 parts_of number task asked =
     ap (λ (x : List ℕ). task_of task.parts x [] task.circuit) (sym asked.is_name)
     ∙ ap (λ (c : List Constraint). task_of task.parts task.name c task.circuit) (sym asked.no_constraints)
+    ∙ ap (whole task.parts task.name task.constraints task.circuit) (sym asked.is_open)
 
 pub task_stands : (number : ℕ) (task : Task) (cause : Cause) → IsAsked number task → StandsForSample number cause → TaskStands task cause
 task_stands number task cause asked m =
@@ -68,8 +75,9 @@ task_so number task cause asked m =
 -- ---- the texts say one task
 pub one_task : (number : ℕ) (a b : Task) → IsAsked number a → IsAsked number b → a ≡ b
 one_task number a b one other =
-    same a.parts b.parts a.name b.name a.constraints b.constraints a.circuit b.circuit (one_value (chip_says chip_text) a.parts b.parts one.is_chip other.is_chip) (one.is_name ∙ sym other.is_name)
-    (one.no_constraints ∙ sym other.no_constraints) (one_value (netlist_of (net_text number)) a.circuit b.circuit one.is_circuit other.is_circuit)
+    let circuit = one_value (netlist_of (net_text number)) a.circuit b.circuit one.is_circuit other.is_circuit in
+    same a.parts b.parts a.name b.name a.constraints b.constraints a.circuit b.circuit a.closing b.closing (one_value (chip_says chip_text) a.parts b.parts one.is_chip other.is_chip) (one.is_name ∙ sym other.is_name)
+    (one.no_constraints ∙ sym other.no_constraints) circuit (one.is_open ∙ ap open_closing circuit ∙ sym other.is_open)
   where
-    same : (p p' : Parts) (x x' : List ℕ) (c c' : List Constraint) (n n' : NetlistData) → p ≡ p' → x ≡ x' → c ≡ c' → n ≡ n' → task_of p x c n ≡ task_of p' x' c' n'
-    same p p' x x' c c' n n' e f g h = cc
+    same : (p p' : Parts) (x x' : List ℕ) (c c' : List Constraint) (n n' : NetlistData) (k k' : Closing) → p ≡ p' → x ≡ x' → c ≡ c' → n ≡ n' → k ≡ k' → whole p x c n k ≡ whole p' x' c' n' k'
+    same p p' x x' c c' n n' k k' e f g h i = cc

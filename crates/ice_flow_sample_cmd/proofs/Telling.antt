@@ -113,7 +113,7 @@ told_net : (number : ℕ) (parts : Parts) (circuit : NetlistData) (cause : Cause
 told_net number parts circuit cause chip e (inl bad) = subst (Told number) (sym bad.1) (record { parts = parts; circuit = circuit; is_chip = chip; is_circuit = e; is_so = (bad.2, bad.3) })
 told_net number parts circuit cause chip e (inr good) =
     let task = task_of parts package_name [] circuit in
-    let asked : IsAsked number task = record { is_chip = chip; is_name = refl; no_constraints = refl; is_circuit = e; is_sound = good.0 } in
+    let asked : IsAsked number task = record { is_chip = chip; is_name = refl; no_constraints = refl; is_circuit = e; is_sound = good.0; is_open = refl } in
     told_pins number task (pins_said task) cause asked refl good.1
 
 told_blif : (number : ℕ) (parts : Parts) (said : Result NetlistData BlifFault) (cause : Cause) → chip_says chip_text ≡ Ok parts → netlist_of (net_text number) ≡ said → BlifStands number parts cause

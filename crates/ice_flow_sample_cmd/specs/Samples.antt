@@ -1,6 +1,7 @@
 -- What `sample` is asked for, and the task that the sample texts say.
 use Rattle.std.specs.Prelude.{◌≡◌, ℕ, ◌≤◌, List, [], Ok, codes, false}
 use Rattle.ice_blif.specs.Grammar.{netlist_of}
+use Rattle.ice_pads.specs.Closings.{open_closing}
 use Rattle.ice_flow_build.specs.declared.answer.Effort.{Effort}
 use Rattle.ice_flow_build.specs.Laid.{Task}
 use Rattle.ice_check.specs.Sound.{IsSound}
@@ -37,6 +38,7 @@ pub record IsAsked (number : ℕ) (task : Task) : Type 0 where
   pub no_constraints : task.constraints ≡ []
   pub is_circuit : netlist_of (net_text number) ≡ Ok task.circuit
   pub is_sound : IsSound task.circuit
+  pub is_open : task.closing ≡ open_closing task.circuit
 
 -- the sample texts of a number say a task of which this is true
 pub record Asks (number : ℕ) (IsSo : Task → Type 0) : Type 0 where

@@ -1,5 +1,5 @@
 -- When each answer of `time` comes, from how its texts stand.
-use Rattle.std.proofs.Common.{◌≡◌, ℕ, List, Result, Ok, Err, inl, inr, refl, sym, subst, false}
+use Rattle.std.proofs.Common.{◌≡◌, ℕ, List, Result, Ok, Err, inl, inr, refl, sym, subst, true}
 use Rattle.ice_desk.specs.Desk.{Meaning}
 use Rattle.ice_chip.specs.Database.{PackageRows}
 use Rattle.ice_timing_delays.specs.declared.delays.Delays.{Delays}
@@ -41,10 +41,10 @@ line_told bonded text cause m =
     of_delays (LineTold bonded text) bonded text cause (λ line is. is) (λ c done. of_done (LineTold bonded text) (λ arrangement tallies kept. tt) (λ role put. tt) c done) m
 
 never : (name : List ℕ) (t : List (List ℕ)) → StandsForTime name t Usage → ⊥
-never name t m = elim (told false (Then t) name t Usage m) [ inl so ↦ so | inr later ↦ line_told later.bonded (text_at t 3) Usage later.stands ]
+never name t m = elim (told true (Then t) name t Usage m) [ inl so ↦ so | inr later ↦ line_told later.bonded (text_at t 3) Usage later.stands ]
 
 bad_line : (name : List ℕ) (t : List (List ℕ)) (line : ℕ) → StandsForTime name t (BadDelays line) → HasBadDelays name line t
-bad_line name t line m = elim (told false (Then t) name t (BadDelays line) m) [
+bad_line name t line m = elim (told true (Then t) name t (BadDelays line) m) [
   | inl so ↦ absurd so
   | inr later ↦ record {
     parts = later.parts;
@@ -58,7 +58,7 @@ bad_line name t line m = elim (told false (Then t) name t (BadDelays line) m) [
 pub lawful : (p : Time) → Lawful (time p)
 lawful p = record {
   done = λ t made on counted cause g done.
-      configured_so false (Then t) p.package_name t g.0.parts g.0.configuration g.0.bonded cause g.0.is_configured
+      configured_so true (Then t) p.package_name t g.0.parts g.0.configuration g.0.bonded cause g.0.is_configured
       (behind (delays_of (text_at t 3)) delays_cause (λ delays. IsDone) g.0.delays cause g.0.delays_are done);
   never = never p.package_name;
 }
@@ -66,9 +66,9 @@ lawful p = record {
 pub alone : (p : Time) → StandsAlone (time p)
 alone p t made on counted cause g m =
     then_stands (delays_of (text_at t 3)) delays_cause (λ delays. IsDone) g.0.delays cause g.0.delays_are
-    (then_so false (Then t) p.package_name t g.0.parts g.0.configuration g.0.bonded cause g.0.is_configured m)
+    (then_so true (Then t) p.package_name t g.0.parts g.0.configuration g.0.bonded cause g.0.is_configured m)
 
-pub on_bits : (p : Time) → IsOnBits false (time p) Then p.package_name
+pub on_bits : (p : Time) → IsOnBits true (time p) Then p.package_name
 on_bits p = record {
   lawful = lawful p;
   stands = λ t cause m. m;
@@ -81,4 +81,4 @@ delays_row p old new cause is line =
     comes (time p) old new cause (λ c. c ≡ BadDelays line) (HasBadDelays p.package_name line) (lawful p) is
     (λ e. of_weaker (files_of p) old (λ t. StandsForTime p.package_name t (BadDelays line)) (HasBadDelays p.package_name line) (λ t m. bad_line p.package_name t line m) (subst (λ (x : Cause). IsTrueOf (time p) old new x) e is).0)
     (λ t h m. fault_alone (delays_of (text_at t 3)) delays_cause (λ delays. IsDone) (BadLine line) cause h.is_line
-    (then_so false (Then t) p.package_name t h.parts h.configuration h.bonded cause h.is_configured m))
+    (then_so true (Then t) p.package_name t h.parts h.configuration h.bonded cause h.is_configured m))

@@ -1,6 +1,6 @@
 -- How the three texts of `time` stand, and what it makes of them: of the chip text, which is the first, of the text of bits, which is the
 -- second, and of the text of delays, which is the third.
-use Rattle.std.specs.Prelude.{◌≡◌, ℕ, List, [], ◌∷◌, Option, Ok, Err, false}
+use Rattle.std.specs.Prelude.{◌≡◌, ℕ, List, [], ◌∷◌, Option, Ok, Err, true}
 use Rattle.ice_place.specs.declared.arrangement.Arrangement.{Arrangement}
 use Rattle.ice_chip.specs.Database.{Parts, PackageRows}
 use Rattle.ice_bits.specs.Configuration.{Bits, Configuration, bits_of}
@@ -37,14 +37,14 @@ DelaysStand delays_text bonded = stands_by (delays_of delays_text) delays_cause 
 
 -- first the chip text is looked at, then the text of bits, then the package, then the bits, and then the delays
 abbrev pub StandsForTime : List ℕ → List (List ℕ) → Cause → Type 0
-StandsForTime name texts = bits.TextsStand false (DelaysStand (text_at texts 3)) name texts
+StandsForTime name texts = bits.TextsStand true (DelaysStand (text_at texts 3)) name texts
 
 -- the bits have no fault, and this line of the text of delays is the first that is refused, or it is 0 and a delay is missing
 pub record HasBadDelays (name : List ℕ) (line : ℕ) (texts : List (List ℕ)) : Type 0 where
   pub parts : Parts
   pub configuration : Configuration
   pub bonded : PackageRows
-  pub is_configured : IsConfigured false name texts parts configuration bonded
+  pub is_configured : IsConfigured true name texts parts configuration bonded
   pub is_line : delays_of (text_at texts 3) ≡ Err (BadLine line)
 
 -- the text of a longest path with these delays, or of none where none leads to an end
@@ -59,7 +59,7 @@ pub record IsTimed (name : List ℕ) (texts : List (List ℕ)) (text : List ℕ)
   pub configuration : Configuration
   pub bonded : PackageRows
   pub delays : DelaysData
-  pub is_configured : IsConfigured false name texts parts configuration bonded
+  pub is_configured : IsConfigured true name texts parts configuration bonded
   pub delays_are : delays_of (text_at texts 3) ≡ Ok delays
   pub is_longest : IsLongestText parts (bits_of configuration) configuration.extras delays text
 

@@ -1,5 +1,5 @@
 //! Timing bits: three texts are read, and the text of a longest path is said.
-ghost use Rattle.std.specs.Prelude.{◌≡◌, false, true, None, IfOk};
+ghost use Rattle.std.specs.Prelude.{◌≡◌, true, None, IfOk};
 ghost use Rattle.ice_desk.specs.Changes.{SameTest};
 ghost use Rattle.ice_flow_frame.specs.Causes.{status_of};
 ghost use Rattle.ice_flow_frame.specs.Commands.{Aloud, IsTrueOf};
@@ -52,14 +52,14 @@ fn longest_text(
 struct Timing;
 
 impl ChipMaking for Timing {
-    ghost rams = { λ timing. false };
+    ghost rams = { λ timing. true };
 
     ghost stands = { λ timing texts. DelaysStand (text_at texts 3) };
 
     ghost gives = { λ timing. IsMadeByTime };
 
     fn takes_rams(&self) -> bool {
-        false
+        true
     }
 
     fn make(

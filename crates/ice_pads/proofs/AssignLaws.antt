@@ -1,11 +1,13 @@
 -- What is known of the pads and globals that are assigned.
-use Rattle.std.proofs.Common.{◌≡◌, ◌⊎◌, inl, inr, ℕ, zero, suc, ◌+◌, ◌<◌, ◌≤◌, ◌==◌, nat_eq, nat_lt, Bool, true, false, not, ◌&&◌, ◌||◌, is_some, Option, None, Some, option_map, Result, Ok, Err, List, [], ◌∷◌, length, map, slice_get, bytes_eq, if◌then◌else◌, refl, sym, ap, subst, ◌∙◌, arith, true≢false}
+use Rattle.std.proofs.Common.{◌≡◌, ◌⊎◌, inl, inr, ℕ, zero, suc, ◌+◌, ◌<◌, ◌≤◌, ◌==◌, nat_eq, nat_lt, Bool, true, false, not, ◌&&◌, ◌||◌, is_some, Option, None, Some, option_map, Ok, Err, List, [], ◌∷◌, ◌++◌, length, map, take, drop, slice_get, bytes_eq, if◌then◌else◌, refl, sym, ap, ap₂, subst, ◌∙◌, arith, true≢false, length-append}
 use Rattle.std.specs.Prelude.{slice_index_or}
 use Rattle.std.specs.List.{find, list_any, list_all, range_with_len, All}
 use Rattle.std.specs.Map.{lookup}
 use Rattle.std.proofs.lemmas.Bool.{and_parts, eqb-true, ltb-true, ltb-false}
 use Rattle.std.proofs.lemmas.Option.{get_or_from_slice_get, slice_get-map}
-use Rattle.std.proofs.lemmas.List.{length-map}
+use Rattle.std.proofs.Math.ListN.{get_or-append}
+use Rattle.std.proofs.lemmas.List.{length-map, map-append, take-append-drop}
+use Rattle.ice_base_values.proofs.Members.{At_left, At_parts, At_within}
 use Rattle.std.proofs.lemmas.List.Elements.{All-head, All-tail}
 use Rattle.std.proofs.lemmas.List.FromFn.{length-map-range_with_len, length-range_with_len, get_or-range_with_len}
 use Rattle.ice_base.proofs.Booleans.{not_true, implied}
@@ -15,33 +17,40 @@ use Rattle.ice_net.specs.NetlistData.{NetlistData}
 use Rattle.ice_pcf.specs.declared.constraint.Constraint.{Constraint}
 use Rattle.ice_chip.proofs.Keys.{pad_same}
 use Rattle.ice_chip.specs.Database.{Parts, PackageRows, same_pad}
-use Rattle.ice_chip.specs.IsRead.{IsChip}
+use Rattle.ice_chip.specs.IsRead.{IsChip, IsRead}
 use Rattle.ice_chip.specs.Lookups.{global_of, gbufpin_of, padin_of, package_of}
 use Rattle.ice_chip.specs.Within.{IsPackage, different_pads}
-use Rattle.ice_chip.specs.Names.{pad_input_name, pad_output_name, output_enable_name}
+use Rattle.ice_chip.specs.Names.{output_enable_name}
 use Rattle.ice_chip.specs.WireNames.{fabout_name}
 use Rattle.ice_chip.specs.declared.rows.Pad.{Pad}
 use Rattle.ice_cells.specs.declared.design.DesignPad.{DesignPad}
 use Rattle.ice_cells.specs.declared.design.Design.{Design}
 use Rattle.ice_cells.specs.declared.root.Root.{Root}
 use Rattle.ice_cells.specs.declared.root.Root.TheVariants.{PadIn, CellOut, GlobalOut, CarryOut}
+use Rattle.ice_pads.specs.declared.want.Want.{Want}
 use Rattle.ice_pads.specs.declared.want.Buffer.{Buffer}
 use Rattle.ice_pads.specs.declared.given.Given.{Given}
 use Rattle.ice_pads.specs.declared.given.Chosen.{Chosen}
 use Rattle.ice_pads.specs.declared.fault.PinFault.{PinFault}
 use Rattle.ice_pads.specs.declared.fault.PinFault.TheVariants.{TooManyGlobals}
-use Rattle.ice_pads.specs.PadWires.{has_io_wire, suits}
+use Rattle.ice_chip_sockets.specs.Pins.{first_pins, IsRamPin}
+use Rattle.ice_chip_sockets.specs.Sockets.{has_io_wire, gives, is_driven}
+use Rattle.ice_chip_sockets.proofs.SocketPins.{pin_high, are_ram_pins, first_pins_once}
+use Rattle.ice_pads.specs.PadWires.{suits}
 use Rattle.ice_pads.specs.Wants.{want_at, wants, pad_of, buffer_of, buffers}
 use Rattle.ice_pads.specs.Constraints.{◌>>=◌, want_of, given_by}
 use Rattle.ice_pads.specs.Ports.{all_chosen}
 use Rattle.ice_pads.specs.Globals.{global_wire, is_fed, is_same_tile, some_lower, is_global, numbers, globals, is_same_extra, is_shared_by, is_own, has_own_extra, is_pad, meets, direct_choices, left, fed_pins, TakenData, taken_by, globals_of}
-use Rattle.ice_pads.specs.Assign.{PadsData, chosen_pads, pads_with, chosen_by, assigned, assign_of}
+use Rattle.ice_pads.specs.Closings.{with_first}
+use Rattle.ice_pads.specs.declared.closing.Closing.{Closing}
+use Rattle.ice_pads.specs.Assign.{PadsData, chosen_pads, pads_with, outer_chosen, with_rams, assigned, assign_of}
 use Rattle.ice_pads.specs.Facts.{HasWires, HasGlobalWire, IsDirect, IsFed, ArePads, AssignedPadsFit}
 use Rattle.ice_pads.proofs.Lower.{lower_same}
-use Rattle.ice_pads.proofs.Inversions.{bind_ok}
+use Rattle.ice_pads.proofs.Inversions.{bind_ok, ok_same}
 use Rattle.ice_pads.proofs.GivenLaws.{none_given, lines_give}
 use Rattle.ice_pads.proofs.ChosenLaws.{AreChosen, none_chosen, all_are}
-use Rattle.ice_pads.proofs.PackageLaws.{pin_bonded}
+use Rattle.ice_pads.proofs.PackageLaws.{pin_bonded, bonded_low}
+use Rattle.ice_pads.proofs.RamPorts.{ArePinned, rams_pinned}
 use Rattle.ice_pads.proofs.GlobalLaws.{Apart, left_fails, right_fails, both_hold, is_one}
 use Rattle.ice_pads.proofs.DirectLaws.{IsChoice, is_named, AreFit, all_fit}
 
@@ -77,15 +86,15 @@ passes_at p (x ∷ xs) (suc k) n all at = passes_at p xs k n (and_parts (p x) (l
 -- ---- ports
 has_wires : (parts : Parts) (p : DesignPad) (pad : Pad) → suits parts (want_at p) pad ≡ true → HasWires parts p pad
 has_wires parts p pad e =
-    let input = not p.reads || has_io_wire parts pad.tile (pad_input_name pad.pio) in
+    let input = not p.reads || gives parts pad in
     let drives = (p.pin_type == 25) || (p.pin_type == 41) in
-    let output = not drives || has_io_wire parts pad.tile (pad_output_name pad.pio) in
+    let output = not drives || is_driven parts pad in
     let enable = not (p.pin_type == 41) || has_io_wire parts pad.tile (output_enable_name pad.pio) in
     let two = and_parts (input && output) enable e in
     let one = and_parts input output two.0 in
     record {
-      input = implied p.reads (has_io_wire parts pad.tile (pad_input_name pad.pio)) one.0;
-      output = λ type. implied drives (has_io_wire parts pad.tile (pad_output_name pad.pio)) one.1 (by type);
+      input = implied p.reads (gives parts pad) one.0;
+      output = λ type. implied drives (is_driven parts pad) one.1 (by type);
       enable = λ type. implied (p.pin_type == 41) (has_io_wire parts pad.tile (output_enable_name pad.pio)) two.1 (ap (λ t. t == 41) type);
     }
   where
@@ -231,70 +240,180 @@ number_at count k x e =
     let there = get_or-range_with_len 0 count k 0 (omega (arith, inside, long)) in
     omega (arith, found, there)
 
-is_direct : (parts : Parts) (d : Design) (pads : PadsData) (k n : ℕ) (b : Buffer) → IsChip parts → slice_get (buffers d pads.ports) k ≡ Some b → IsChoice parts b n → IsDirect parts d pads k n
-is_direct parts d pads k n b chip at is =
+-- the pads of ports that are seen from outside are pads of ports
+is_direct : (parts : Parts) (d : Design) (pads : PadsData) (seen more : List Pad) (k n : ℕ) (b : Buffer) → IsChip parts → pads.ports ≡ seen ++ more → slice_get (buffers d seen) k ≡ Some b → IsChoice parts b n
+    → IsDirect parts d pads k n
+is_direct parts d pads seen more k n b chip ports at is =
     let own = is_pad is.pad (gbufpin_of parts n) && has_own_extra parts n in
     let three = and_parts (own && is_some (global_wire parts n)) (meets parts b.pins n) is.can in
     let two = and_parts own (is_some (global_wire parts n)) three.0 in
     let one = and_parts (is_pad is.pad (gbufpin_of parts n)) (has_own_extra parts n) two.0 in
     let extra = own_extra parts n (padin_of parts n) one.1 in
-    let found = mapped_from (buffer_of d pads.ports) (range_with_len 0 (length d.globals)) k b at in
+    let found = mapped_from (buffer_of d seen) (range_with_len 0 (length d.globals)) k b at in
     let number : found.0 ≡ k = number_at (length d.globals) k found.0 found.1 in
-    let root = port_root pads.ports (slice_index_or d.globals k None) is.pad (ap (λ j. pad_of pads.ports (slice_index_or d.globals j None)) (sym number) ∙ ap (λ (x : Buffer). x.pad) found.2 ∙ is.takes) in
+    let root = port_root seen (slice_index_or d.globals k None) is.pad (ap (λ j. pad_of seen (slice_index_or d.globals j None)) (sym number) ∙ ap (λ (x : Buffer). x.pad) found.2 ∙ is.takes) in
     record {
       port = root.0;
       root = index_there d.globals k (PadIn root.0) root.1;
       pad = is.pad;
-      there = root.2;
+      there = ap (λ (ps : List Pad). slice_get ps root.0) ports ∙ At_left seen more root.0 is.pad root.2;
       fed_by = pad_named is.pad (gbufpin_of parts n) one.0;
       extra = extra.0;
       extra_of = extra.1;
       alone = λ m same. extra_alone parts n extra.0 m chip extra.2 same;
     }
 
+-- ---- what is wanted
+want_before : (xs ys : List Want) (k : ℕ) → k < length xs → want_of (xs ++ ys) k ≡ want_of xs k
+want_before xs ys k lt = get_or-append xs ys (record { input = false; output = false; enable = false; pullup = false }) k lt
+
+want_behind : (xs ys : List Want) (j : ℕ) → want_of (xs ++ ys) (length xs + j) ≡ want_of ys j
+want_behind [] ys j = let e : 0 + j ≡ j = omega arith in ap (want_of ys) e
+want_behind (x ∷ xs) ys j = let e : length (x ∷ xs) + j ≡ suc (length xs + j) = omega arith in ap (want_of ((x ∷ xs) ++ ys)) e ∙ want_behind xs ys j
+
 -- ---- all
-pads_are : (parts : Parts) (rows : PackageRows) (d : Design) (given : List Given) (chosen : List Chosen) (taken : TakenData) → IsChip parts → AreChosen parts rows.pads (wants d) given chosen → length chosen ≡ length (wants d)
-    → AreFit parts (buffers d (chosen_pads chosen)) taken → ArePads parts rows d (pads_with chosen taken)
-pads_are parts rows d given chosen taken chip are long fit = record {
-  ports = length-map chosen (λ (c : Chosen). c.pad) ∙ long ∙ length-map d.pads want_at;
-  pullups = length-map chosen (λ (c : Chosen). c.pullup) ∙ long ∙ length-map d.pads want_at;
+-- what ports got that are seen from outside, what those of block RAMs got behind it, and what both want
+pub record AreParted (parts : Parts) (rows : PackageRows) (rams : ℕ) (given : List Given) (seen hidden : List Chosen) (outer inner : List Want) : Type 0 where
+  pub are : AreChosen parts rows.pads outer given seen
+  pub long : length seen ≡ length outer
+  pub pinned : ArePinned parts (first_pins parts rams) 0 inner hidden
+
+module _ (parts : Parts) (rows : PackageRows) (rams : ℕ) (given : List Given) (seen hidden : List Chosen) (outer inner : List Want) (p : AreParted parts rows rams given seen hidden outer inner) where
+  all_long : length (seen ++ hidden) ≡ length (outer ++ inner)
+  all_long = length-append seen hidden ∙ ap₂ (λ a b. a + b) p.long p.pinned.long ∙ sym (length-append outer inner)
+
+  -- ---- where they stand
+  pin_of : (j : ℕ) (c : Chosen) → slice_get hidden j ≡ Some c → IsRamPin parts rams c.pad
+  pin_of j c at = are_ram_pins parts rams c.pad (0 + j, p.pinned.are_pins j c at)
+
+  bonded_at : (k : ℕ) (c : Chosen) → slice_get (seen ++ hidden) k ≡ Some c → (list_any (same_pad c.pad) rows.pads ≡ true) ⊎ IsRamPin parts rams c.pad
+  bonded_at k c at = by (At_parts seen hidden k c at)
+    where
+      by : (slice_get seen k ≡ Some c) ⊎ ((j : ℕ) × (k ≡ length seen + j) × (slice_get hidden j ≡ Some c)) → (list_any (same_pad c.pad) rows.pads ≡ true) ⊎ IsRamPin parts rams c.pad
+      by (inl here) = inl (p.are.bonded k c here)
+      by (inr (j, e, there)) = inr (pin_of j c there)
+
+  -- ---- no two are the same
+  elsewhere : ((pad : Pad) → list_any (same_pad pad) rows.pads ≡ true → pad.pio < 2) → (j k : ℕ) (c e : Chosen) → slice_get seen j ≡ Some c → slice_get hidden k ≡ Some e → c.pad ≡ e.pad → ⊥
+  elsewhere low j k c e at be same =
+      let below = low c.pad (p.are.bonded j c at) in
+      let above = pin_high parts rams e.pad (pin_of k e be) in
+      let pios : c.pad.pio ≡ e.pad.pio = ap (λ (x : Pad). x.pio) same in
+      omega (arith, below, above, pios)
+
+  apart_at_all : IsRead parts → ((pad : Pad) → list_any (same_pad pad) rows.pads ≡ true → pad.pio < 2) → (j k : ℕ) (c e : Chosen) → slice_get (seen ++ hidden) j ≡ Some c → slice_get (seen ++ hidden) k ≡ Some e → c.pad ≡ e.pad → j ≡ k
+  apart_at_all read low j k c e at be same = by (At_parts seen hidden j c at) (At_parts seen hidden k e be)
+    where
+      by : (slice_get seen j ≡ Some c) ⊎ ((m : ℕ) × (j ≡ length seen + m) × (slice_get hidden m ≡ Some c)) → (slice_get seen k ≡ Some e) ⊎ ((m : ℕ) × (k ≡ length seen + m) × (slice_get hidden m ≡ Some e)) → j ≡ k
+      by (inl here) (inl there) = p.are.apart j k c e here there same
+      by (inl here) (inr (m, f, there)) = absurd (elsewhere low j m c e here there same)
+      by (inr (m, f, here)) (inl there) = absurd (elsewhere low k m e c there here (sym same))
+      by (inr (m, f, here)) (inr (l, g, there)) =
+          let place : 0 + m ≡ 0 + l = first_pins_once parts rams read (0 + m) (0 + l) c.pad (p.pinned.are_pins m c here) (p.pinned.are_pins l e there ∙ ap Some (sym same)) in
+          omega (arith, f, g, place)
+
+  -- ---- they have the wires
+  suited_at : (k : ℕ) (c : Chosen) → slice_get (seen ++ hidden) k ≡ Some c → suits parts (want_of (outer ++ inner) k) c.pad ≡ true
+  suited_at k c at = by (At_parts seen hidden k c at)
+    where
+      by : (slice_get seen k ≡ Some c) ⊎ ((j : ℕ) × (k ≡ length seen + j) × (slice_get hidden j ≡ Some c)) → suits parts (want_of (outer ++ inner) k) c.pad ≡ true
+      by (inl here) =
+          let inside = At_within seen k c here in
+          let long = p.long in
+          ap (λ w. suits parts w c.pad) (want_before outer inner k (omega (arith, inside, long))) ∙ p.are.suited k c here
+      by (inr (j, e, there)) = ap (λ m. suits parts (want_of (outer ++ inner) m) c.pad) (e ∙ ap (λ m. m + j) p.long) ∙ ap (λ w. suits parts w c.pad) (want_behind outer inner j) ∙ p.pinned.suited j c there
+
+-- what is assigned
+pads_are : (parts : Parts) (rows : PackageRows) (rams : ℕ) (d : Design) (given : List Given) (seen hidden : List Chosen) (outer inner : List Want) (taken : TakenData) → IsChip parts
+    → ((pad : Pad) → list_any (same_pad pad) rows.pads ≡ true → pad.pio < 2) → AreParted parts rows rams given seen hidden outer inner → outer ++ inner ≡ wants d
+    → AreFit parts (buffers d (chosen_pads seen)) taken → ArePads parts rows rams d (pads_with (seen ++ hidden) taken)
+pads_are parts rows rams d given seen hidden outer inner taken chip low parted both fit = record {
+  ports = length-map (seen ++ hidden) (λ (c : Chosen). c.pad) ∙ long;
+  pullups = length-map (seen ++ hidden) (λ (c : Chosen). c.pullup) ∙ long;
   bonded = λ k pad at.
-      let c = mapped_from (λ (x : Chosen). x.pad) chosen k pad at in
-      ap (λ p. list_any (same_pad p) rows.pads) (sym c.2) ∙ are.bonded k c.0 c.1;
+      let c = mapped_from (λ (x : Chosen). x.pad) (seen ++ hidden) k pad at in
+      subst (λ (q : Pad). (list_any (same_pad q) rows.pads ≡ true) ⊎ IsRamPin parts rams q) c.2 (bonded_at parts rows rams given seen hidden outer inner parted k c.0 c.1);
   apart = λ j k pad at be.
-      let c = mapped_from (λ (x : Chosen). x.pad) chosen j pad at in
-      let e = mapped_from (λ (x : Chosen). x.pad) chosen k pad be in
-      are.apart j k c.0 e.0 c.1 e.1 (c.2 ∙ sym e.2);
-  wires = λ k p pad of at.
-      let c = mapped_from (λ (x : Chosen). x.pad) chosen k pad at in
-      has_wires parts p pad (ap (λ q. suits parts (want_at p) q) (sym c.2) ∙ ap (λ w. suits parts w c.0.pad) (sym (want_is d.pads k p of)) ∙ are.suited k c.0 c.1);
-  globals = fit.long ∙ length-map-range_with_len (buffer_of d (chosen_pads chosen)) 0 (length d.globals);
+      let c = mapped_from (λ (x : Chosen). x.pad) (seen ++ hidden) j pad at in
+      let e = mapped_from (λ (x : Chosen). x.pad) (seen ++ hidden) k pad be in
+      apart_at_all parts rows rams given seen hidden outer inner parted chip.read low j k c.0 e.0 c.1 e.1 (c.2 ∙ sym e.2);
+  wires = λ k q pad of at.
+      let c = mapped_from (λ (x : Chosen). x.pad) (seen ++ hidden) k pad at in
+      has_wires parts q pad
+      (ap (λ r. suits parts (want_at q) r) (sym c.2)
+      ∙ ap (λ w. suits parts w c.0.pad) (sym (want_is d.pads k q of))
+      ∙ ap (λ ws. suits parts (want_of ws k) c.0.pad) (sym both)
+      ∙ suited_at parts rows rams given seen hidden outer inner parted k c.0 c.1);
+  globals = fit.long ∙ length-map-range_with_len (buffer_of d (chosen_pads seen)) 0 (length d.globals);
   named = λ k n at. named parts n (passes_at (is_named parts) taken.numbers k n fit.pass at);
   single = λ j k n at be. apart_at taken.numbers j k n fit.apart at be;
-  directs = fit.directs ∙ length-map-range_with_len (buffer_of d (chosen_pads chosen)) 0 (length d.globals);
-  direct = λ k n at is. let choice = fit.direct k n at is in is_direct parts d (pads_with chosen taken) k n choice.0 chip choice.1 choice.2;
+  directs = fit.directs ∙ length-map-range_with_len (buffer_of d (chosen_pads seen)) 0 (length d.globals);
+  direct = λ k n at is.
+      let choice = fit.direct k n at is in
+      is_direct parts d (pads_with (seen ++ hidden) taken) (chosen_pads seen) (chosen_pads hidden) k n choice.0 chip (map-append (λ (c : Chosen). c.pad) seen hidden) choice.1 choice.2;
   fed = λ k n at not_direct. fed parts n (fit.fed k n at not_direct);
   others = λ j k n m tile at be a b of is.
       let same = one_number parts n m tile (fit.fed j n at a) (fit.fed k m be b) of is in
       apart_at taken.numbers j k n fit.apart at (be ∙ ap Some (sym same));
 }
+  where
+    long : length (seen ++ hidden) ≡ length d.pads
+    long = all_long parts rows rams given seen hidden outer inner parted ∙ ap length both ∙ length-map d.pads want_at
 
-ok_same : (v w : PadsData) (one two : Result PadsData PinFault) → one ≡ Ok v → two ≡ Ok w → one ≡ two → v ≡ w
-ok_same v w one two is be e = let same : Ok v ≡ Ok w = sym is ∙ e ∙ be in cc
+-- ---- what an answer is made of
+pub record IsMade (parts : Parts) (rows : PackageRows) (constraints : List Constraint) (n : NetlistData) (closing : Closing) (ws : List Want) (buffers : List Pad → List Buffer) (pads : PadsData) : Type 0 where
+  pub given : List Given
+  pub lines : given_by parts rows.pins (with_first closing.first n) (take closing.first ws) [] constraints ≡ Ok given
+  pub seen : List Chosen
+  pub ports : all_chosen parts rows.pads (with_first closing.first n) given [] (take closing.first ws) ≡ Ok seen
+  pub taken : TakenData
+  pub globals : globals_of parts (buffers (chosen_pads seen)) ≡ Ok taken
+  pub hidden : List Chosen
+  pub pinned : ArePinned parts (first_pins parts closing.rams) 0 (drop closing.first ws) hidden
+  pub made : pads_with (seen ++ hidden) taken ≡ pads
 
-pads_of_rows : (parts : Parts) (constraints : List Constraint) (n : NetlistData) (d : Design) (rows : PackageRows) (pads : PadsData) → IsChip parts → rows.pads ≡ different_pads rows.pins
-    → assigned parts constraints n (wants d) (buffers d) (Some rows) ≡ Ok pads → ArePads parts rows d pads
-pads_of_rows parts constraints n d rows pads chip different e =
-    let first = bind_ok (chosen_by parts rows constraints n (wants d)) (λ chosen. globals_of parts (buffers d (chosen_pads chosen)) >>= (λ taken. Ok (pads_with chosen taken))) pads e in
-    let lines = bind_ok (given_by parts rows.pins n (wants d) [] constraints) (λ given. all_chosen parts rows.pads n given [] (wants d)) first.0 first.1 in
-    let last = bind_ok (globals_of parts (buffers d (chosen_pads first.0))) (λ taken. Ok (pads_with first.0 taken)) pads first.2 in
-    let given = lines_give parts rows.pins n (wants d) [] constraints lines.0 (none_given parts rows.pins (wants d)) lines.1 in
+pub made_of : (parts : Parts) (rows : PackageRows) (constraints : List Constraint) (n : NetlistData) (closing : Closing) (ws : List Want) (buffers : List Pad → List Buffer) (pads : PadsData)
+    → assigned parts constraints n closing ws buffers (Some rows) ≡ Ok pads → IsMade parts rows constraints n closing ws buffers pads
+made_of parts rows constraints n closing ws buffers pads e =
+    let first = bind_ok (outer_chosen parts rows constraints n closing.first ws) (λ chosen. globals_of parts (buffers (chosen_pads chosen)) >>= (λ taken. with_rams parts n chosen closing.rams (drop closing.first ws) >>= (λ all. Ok (pads_with all taken)))) pads e in
+    let lines = bind_ok (given_by parts rows.pins (with_first closing.first n) (take closing.first ws) [] constraints) (λ given. all_chosen parts rows.pads (with_first closing.first n) given [] (take closing.first ws)) first.0 first.1 in
+    let second = bind_ok (globals_of parts (buffers (chosen_pads first.0))) (λ taken. with_rams parts n first.0 closing.rams (drop closing.first ws) >>= (λ all. Ok (pads_with all taken))) pads first.2 in
+    let third = bind_ok (with_rams parts n first.0 closing.rams (drop closing.first ws)) (λ all. Ok (pads_with all second.0)) pads second.2 in
+    let pins = rams_pinned parts n first.0 closing.rams (drop closing.first ws) third.0 third.1 in
+    let same : pads_with third.0 second.0 ≡ pads = ok_same (pads_with third.0 second.0) pads (Ok (pads_with third.0 second.0)) (Ok pads) refl refl third.2 in
+    record {
+      given = lines.0;
+      lines = lines.1;
+      seen = first.0;
+      ports = lines.2;
+      taken = second.0;
+      globals = second.1;
+      hidden = pins.0;
+      pinned = pins.2;
+      made = whole third.0 first.0 pins.0 second.0 pins.1 ∙ same;
+    }
+  where
+    whole : (all seen hidden : List Chosen) (taken : TakenData) → all ≡ seen ++ hidden → pads_with (seen ++ hidden) taken ≡ pads_with all taken
+    whole all seen hidden taken e = ap (λ (cs : List Chosen). pads_with cs taken) (sym e)
+
+-- pads of ports that are seen from outside
+pub parted_of : (parts : Parts) (rows : PackageRows) (constraints : List Constraint) (n : NetlistData) (closing : Closing) (ws : List Want) (buffers : List Pad → List Buffer) (pads : PadsData) → rows.pads ≡ different_pads rows.pins
+    → (m : IsMade parts rows constraints n closing ws buffers pads) → AreParted parts rows closing.rams m.given m.seen m.hidden (take closing.first ws) (drop closing.first ws)
+parted_of parts rows constraints n closing ws buffers pads different m =
+    let outer = take closing.first ws in
+    let given = lines_give parts rows.pins (with_first closing.first n) outer [] constraints m.given (none_given parts rows.pins outer) m.lines in
     let bonded : (pin : List ℕ) (pad : Pad) → lookup (bytes_eq pin) rows.pins ≡ Some pad → list_any (same_pad pad) rows.pads ≡ true = λ pin pad at. ap (list_any (same_pad pad)) different ∙ pin_bonded rows.pins [] pin pad at in
-    let zero_more : (i : ℕ) → want_of (wants d) (0 + i) ≡ want_of (wants d) i = λ i. let e : 0 + i ≡ i = omega arith in ap (want_of (wants d)) e in
-    let ports = all_are parts rows.pins rows.pads n (wants d) lines.0 [] (wants d) first.0 given (none_chosen parts rows.pads (wants d) lines.0) zero_more bonded lines.2 in
-    let same : pads_with first.0 last.0 ≡ pads = ok_same (pads_with first.0 last.0) pads (Ok (pads_with first.0 last.0)) (Ok pads) refl refl last.2 in
-    let long : length first.0 ≡ length (wants d) = let e : length first.0 ≡ 0 + length (wants d) = ports.1 in omega arith in
-    subst (ArePads parts rows d) same (pads_are parts rows d lines.0 first.0 last.0 chip ports.0 long (globals_are parts (buffers d (chosen_pads first.0)) last.0 last.1))
+    let zero_more : (i : ℕ) → want_of outer (0 + i) ≡ want_of outer i = λ i. let e : 0 + i ≡ i = omega arith in ap (want_of outer) e in
+    let ports = all_are parts rows.pins rows.pads (with_first closing.first n) outer m.given [] outer m.seen given (none_chosen parts rows.pads outer m.given) zero_more bonded m.ports in
+    record { are = ports.0; long = (let e : length m.seen ≡ 0 + length outer = ports.1 in omega (arith, e)); pinned = m.pinned }
+
+pads_of_rows : (parts : Parts) (constraints : List Constraint) (n : NetlistData) (closing : Closing) (d : Design) (rows : PackageRows) (pads : PadsData) → IsChip parts → IsPackage parts.width parts.height rows
+    → assigned parts constraints n closing (wants d) (buffers d) (Some rows) ≡ Ok pads → ArePads parts rows closing.rams d pads
+pads_of_rows parts constraints n closing d rows pads chip form e =
+    let m = made_of parts rows constraints n closing (wants d) (buffers d) pads e in
+    subst (ArePads parts rows closing.rams d) m.made
+    (pads_are parts rows closing.rams d m.given m.seen m.hidden (take closing.first (wants d)) (drop closing.first (wants d)) m.taken chip (bonded_low parts.width parts.height rows form)
+    (parted_of parts rows constraints n closing (wants d) (buffers d) pads form.pads m) (take-append-drop closing.first (wants d)) (globals_are parts (buffers d (chosen_pads m.seen)) m.taken m.globals))
 
 -- a package that a look-up finds has the different pads of its pins
 pub found_package : (width height : ℕ) (p : PackageRows → Bool) (packages : List PackageRows) (rows : PackageRows) → All (IsPackage width height) packages → find p packages ≡ Some rows → IsPackage width height rows
@@ -306,15 +425,17 @@ found_package width height p (x ∷ packages) rows all e = by (p x) (found_packa
     by false later e = later e
 
 pub pads_fit : AssignedPadsFit
-pads_fit parts name constraints n d rows pads chip found e =
+pads_fit parts name constraints n closing d rows pads chip found e =
     let form = found_package parts.width parts.height (λ p. bytes_eq p.name name) parts.packages rows chip.read.package_forms found in
-    pads_of_rows parts constraints n d rows pads chip form.pads (ap (assigned parts constraints n (wants d) (buffers d)) (sym found) ∙ e)
+    pads_of_rows parts constraints n closing d rows pads chip form (ap (assigned parts constraints n closing (wants d) (buffers d)) (sym found) ∙ e)
 
 -- a step at a time
-pub assigned_by : (parts : Parts) (name : List ℕ) (constraints : List Constraint) (n : NetlistData) (d : Design) (rows : PackageRows) (chosen : List Chosen) (taken : TakenData) (pads : PadsData) → package_of parts name ≡ Some rows
-    → chosen_by parts rows constraints n (wants d) ≡ Ok chosen → globals_of parts (buffers d (chosen_pads chosen)) ≡ Ok taken → pads ≡ pads_with chosen taken → assign_of parts name constraints n d ≡ Ok pads
-assigned_by parts name constraints n d rows chosen taken pads found ports globals are =
-    ap (assigned parts constraints n (wants d) (buffers d)) found
-    ∙ ap (λ said. said >>= (λ chosen. globals_of parts (buffers d (chosen_pads chosen)) >>= (λ taken. Ok (pads_with chosen taken)))) ports
-    ∙ ap (λ said. said >>= (λ taken. Ok (pads_with chosen taken))) globals
+pub assigned_by : (parts : Parts) (name : List ℕ) (constraints : List Constraint) (n : NetlistData) (closing : Closing) (d : Design) (rows : PackageRows) (seen all : List Chosen) (taken : TakenData) (pads : PadsData)
+    → package_of parts name ≡ Some rows → outer_chosen parts rows constraints n closing.first (wants d) ≡ Ok seen → globals_of parts (buffers d (chosen_pads seen)) ≡ Ok taken
+    → with_rams parts n seen closing.rams (drop closing.first (wants d)) ≡ Ok all → pads ≡ pads_with all taken → assign_of parts name constraints n closing d ≡ Ok pads
+assigned_by parts name constraints n closing d rows seen all taken pads found ports globals rams are =
+    ap (assigned parts constraints n closing (wants d) (buffers d)) found
+    ∙ ap (λ said. said >>= (λ chosen. globals_of parts (buffers d (chosen_pads chosen)) >>= (λ taken. with_rams parts n chosen closing.rams (drop closing.first (wants d)) >>= (λ all. Ok (pads_with all taken))))) ports
+    ∙ ap (λ said. said >>= (λ taken. with_rams parts n seen closing.rams (drop closing.first (wants d)) >>= (λ all. Ok (pads_with all taken)))) globals
+    ∙ ap (λ said. said >>= (λ all. Ok (pads_with all taken))) rams
     ∙ ap (λ (p : PadsData). Ok p) (sym are)

@@ -1,5 +1,5 @@
 -- What ports get: different pads of the package, each with the wires that its port needs.
-use Rattle.std.proofs.Common.{◌≡◌, ◌⊎◌, inl, inr, ℕ, zero, suc, ◌+◌, ◌<◌, Bool, true, false, not, ◌||◌, is_some, Option, None, Some, Result, Ok, List, [], ◌∷◌, ◌++◌, length, length-append, slice_get, bytes_eq, if◌then◌else◌, unwrap_or, refl, sym, ap, subst, ◌∙◌, arith, add-one, true≢false}
+use Rattle.std.proofs.Common.{◌≡◌, ◌⊎◌, inl, inr, ℕ, zero, suc, ◌+◌, ◌<◌, Bool, true, false, not, ◌||◌, is_some, Option, None, Some, Ok, List, [], ◌∷◌, ◌++◌, length, length-append, slice_get, bytes_eq, if◌then◌else◌, unwrap_or, refl, sym, ap, subst, ◌∙◌, arith, add-one, true≢false}
 use Rattle.std.specs.List.{find, list_any}
 use Rattle.std.specs.Map.{lookup}
 use Rattle.std.proofs.lemmas.Bool.{and_parts}
@@ -11,11 +11,10 @@ use Rattle.ice_chip.proofs.Keys.{pad_self}
 use Rattle.ice_pads.specs.declared.want.Want.{Want}
 use Rattle.ice_pads.specs.declared.given.Given.{Given}
 use Rattle.ice_pads.specs.declared.given.Chosen.{Chosen}
-use Rattle.ice_pads.specs.declared.fault.PinFault.{PinFault}
 use Rattle.ice_pads.specs.PadWires.{suits}
 use Rattle.ice_pads.specs.Constraints.{of_port, of_pad, want_of}
 use Rattle.ice_pads.specs.Ports.{is_free, is_fit, by_free, by_given, next_chosen, with_next, all_chosen}
-use Rattle.ice_pads.proofs.Inversions.{bind_ok, pushed_at}
+use Rattle.ice_pads.proofs.Inversions.{bind_ok, ok_same, pushed_at}
 use Rattle.ice_pads.proofs.GivenLaws.{AreGiven}
 
 -- what the first ports got
@@ -189,9 +188,6 @@ next_is parts pins pads n wants given chosen want new None gives are wanted all 
 -- ---- all ports
 abbrev pub AreWanted : List Want → ℕ → List Want → Type 0
 AreWanted wants count left = (i : ℕ) → want_of wants (count + i) ≡ want_of left i
-
-pub ok_same : (v w : List Chosen) (one two : Result (List Chosen) PinFault) → one ≡ Ok v → two ≡ Ok w → one ≡ two → v ≡ w
-ok_same v w one two is be e = let same : Ok v ≡ Ok w = sym is ∙ e ∙ be in cc
 
 pub all_are : (parts : Parts) (pins : List (List ℕ × Pad)) (pads : List Pad) (n : NetlistData) (wants : List Want) (given : List Given) (chosen : List Chosen) (left : List Want) (out : List Chosen)
     → AreGiven parts pins wants given → AreChosen parts pads wants given chosen → AreWanted wants (length chosen) left

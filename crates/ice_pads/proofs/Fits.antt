@@ -6,9 +6,10 @@ use Rattle.std.proofs.lemmas.List.{take_all}
 use Rattle.std.proofs.lemmas.List.Folds.{list_any-append, list_any_more}
 use Rattle.std.proofs.lemmas.Option.{slice_get-get_or}
 use Rattle.ice_chip.specs.Database.{Parts, same_pad}
-use Rattle.ice_chip.specs.Names.{pad_input_name, pad_output_name, output_enable_name}
+use Rattle.ice_chip.specs.Names.{output_enable_name}
 use Rattle.ice_chip.specs.declared.rows.Pad.{Pad}
-use Rattle.ice_pads.specs.PadWires.{has_io_wire, suits}
+use Rattle.ice_chip_sockets.specs.Sockets.{has_io_wire, gives, is_driven}
+use Rattle.ice_pads.specs.PadWires.{suits}
 use Rattle.ice_pads.specs.declared.want.Want.{Want}
 use Rattle.ice_pads.specs.declared.given.Given.{Given}
 use Rattle.ice_pads.specs.declared.given.Chosen.{Chosen}
@@ -113,11 +114,11 @@ thirds false false false = refl
 -- wants of one number need the same wires
 same_wires : (parts : Parts) (v w : Want) (pad : Pad) → kind_of v ≡ kind_of w → suits parts v pad ≡ suits parts w pad
 same_wires parts v w pad e =
-    ap (λ b. ((not b || has_io_wire parts pad.tile (pad_input_name pad.pio)) && (not v.output || has_io_wire parts pad.tile (pad_output_name pad.pio))) && (not v.enable || has_io_wire parts pad.tile (output_enable_name pad.pio)))
+    ap (λ b. ((not b || gives parts pad) && (not v.output || is_driven parts pad)) && (not v.enable || has_io_wire parts pad.tile (output_enable_name pad.pio)))
     (sym (firsts v.input v.output v.enable) ∙ ap first_bit e ∙ firsts w.input w.output w.enable)
-    ∙ ap (λ b. ((not w.input || has_io_wire parts pad.tile (pad_input_name pad.pio)) && (not b || has_io_wire parts pad.tile (pad_output_name pad.pio))) && (not v.enable || has_io_wire parts pad.tile (output_enable_name pad.pio)))
+    ∙ ap (λ b. ((not w.input || gives parts pad) && (not b || is_driven parts pad)) && (not v.enable || has_io_wire parts pad.tile (output_enable_name pad.pio)))
     (sym (seconds v.input v.output v.enable) ∙ ap second_bit e ∙ seconds w.input w.output w.enable)
-    ∙ ap (λ b. ((not w.input || has_io_wire parts pad.tile (pad_input_name pad.pio)) && (not w.output || has_io_wire parts pad.tile (pad_output_name pad.pio))) && (not b || has_io_wire parts pad.tile (output_enable_name pad.pio)))
+    ∙ ap (λ b. ((not w.input || gives parts pad) && (not w.output || is_driven parts pad)) && (not b || has_io_wire parts pad.tile (output_enable_name pad.pio)))
     (sym (thirds v.input v.output v.enable) ∙ ap third_bit e ∙ thirds w.input w.output w.enable)
 
 pub moved_passed : (parts : Parts) (pads : List Pad) (given : List Given) (chosen : List Chosen) (starts : List ℕ) (v : Want) (place : ℕ) → ArePassed parts pads given chosen starts → kind_of v < length starts

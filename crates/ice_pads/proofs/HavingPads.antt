@@ -1,10 +1,16 @@
 -- Ports have their pads: assigned ones are of the package, no two are alike, and constraints are kept to.
-use Rattle.std.proofs.Common.{◌≡◌, ◌⊎◌, inl, inr, ℕ, zero, suc, ◌==◌, Bool, true, false, ◌||◌, Option, None, Some, Ok, Err, List, [], ◌∷◌, ◌++◌, length, slice_get, bytes_eq, if◌then◌else◌, refl, sym, ap, subst, ◌∙◌, true≢false}
+use Rattle.std.proofs.Common.{◌≡◌, ◌⊎◌, inl, inr, ℕ, zero, suc, ◌+◌, ◌<◌, ◌==◌, Bool, true, false, ◌||◌, Option, None, Some, Ok, Err, List, [], ◌∷◌, ◌++◌, length, length-take, length-drop, take, drop, slice_get, bytes_eq, if◌then◌else◌, refl, sym, ap, subst, ◌∙◌, true≢false, arith}
+use Rattle.std.specs.Prelude.{min}
+use Rattle.std.proofs.lemmas.List.{take_all}
 use Rattle.std.specs.List.{list_any}
 use Rattle.std.specs.Map.{lookup}
 use Rattle.std.specs.Option.{option_or}
 use Rattle.ice_base.proofs.Keys.{nat_self}
 use Rattle.ice_base_values.specs.Order.{At, Has}
+use Rattle.ice_base_values.proofs.Members.{At_parts, At_within}
+use Rattle.ice_base_values.proofs.Places.{At_take}
+use Rattle.ice_chip.specs.IsRead.{IsChip}
+use Rattle.ice_chip.specs.Within.{IsPackage}
 use Rattle.ice_net.specs.NetlistData.{NetlistData}
 use Rattle.ice_pcf.specs.declared.constraint.Constraint.{Constraint}
 use Rattle.ice_chip.proofs.Keys.{pad_same}
@@ -18,16 +24,18 @@ use Rattle.ice_pads.specs.declared.given.Chosen.{Chosen}
 use Rattle.ice_pads.specs.declared.fault.PinFault.TheVariants.{UnknownPort, PadLacks}
 use Rattle.ice_pads.specs.PadWires.{suits}
 use Rattle.ice_pads.specs.Wants.{wants, buffers}
-use Rattle.ice_pads.specs.Constraints.{◌>>=◌, of_port, want_of, free_pad, given_to, with_pad, by_port, with_line, given_by, port_named, port_name, HavePads}
+use Rattle.ice_pads.specs.Constraints.{of_port, want_of, free_pad, given_to, with_pad, by_port, with_line, given_by, port_named, port_name, HavePads}
 use Rattle.ice_pads.specs.Ports.{by_given, next_chosen, with_next, all_chosen}
-use Rattle.ice_pads.specs.Globals.{globals_of}
-use Rattle.ice_pads.specs.Assign.{PadsData, chosen_pads, pads_with, chosen_by, assigned, assign_of}
-use Rattle.ice_pads.specs.Facts.{ArePads}
-use Rattle.ice_pads.proofs.Inversions.{bind_ok, if_ok, pushed_at}
+use Rattle.ice_pads.specs.Assign.{PadsData, assigned, assign_of}
+use Rattle.ice_pads.specs.Closings.{open_closing, with_first}
+use Rattle.ice_net.specs.declared.port.Port.{Port}
+use Rattle.ice_pads.specs.declared.closing.Closing.{Closing}
+use Rattle.ice_pads.specs.declared.want.Buffer.{Buffer}
+use Rattle.ice_pads.proofs.Inversions.{bind_ok, if_ok, ok_same, pushed_at}
 use Rattle.ice_pads.proofs.Noting.{port_more}
 use Rattle.ice_pads.proofs.GivenLaws.{free_pad_ok}
-use Rattle.ice_pads.proofs.ChosenLaws.{chosen_for, ok_same}
-use Rattle.ice_pads.proofs.AssignLaws.{mapped_from}
+use Rattle.ice_pads.proofs.ChosenLaws.{chosen_for}
+use Rattle.ice_pads.proofs.AssignLaws.{mapped_from, found_package, IsMade, AreParted, made_of, parted_of}
 
 -- ---- what lines give
 -- what a port has been given it keeps
@@ -119,31 +127,6 @@ all_of_given parts pads n given chosen (want ∷ left) out are e =
 no_pads : (given : List Given) → AreOfGiven given []
 no_pads given k c g at of = absurd (cc)
 
--- where pads are assigned, a port that a constraint names has the pad of the constraint's pin
-module _ (parts : Parts) (bonded : PackageRows) (constraints : List Constraint) (n : NetlistData) (d : Design) (pads : PadsData) (c : Constraint) (k : ℕ) (pad : Pad) (has : Has constraints c) (named : port_named n c.name ≡ Some k) (at : At pads.ports k pad) where
-  by_chosen : (chosen : List Chosen) → chosen_by parts bonded constraints n (wants d) ≡ Ok chosen → pads.ports ≡ chosen_pads chosen → lookup (bytes_eq c.pin) bonded.pins ≡ Some pad
-  by_chosen chosen e ports =
-      let step = bind_ok (given_by parts bonded.pins n (wants d) [] constraints) (λ given. all_chosen parts bonded.pads n given [] (wants d)) chosen e in
-      let given = lines_give_pins parts bonded.pins n (wants d) [] constraints step.0 has.0 c k step.1 has.1 named in
-      let place : slice_get (chosen_pads chosen) k ≡ Some pad = ap (λ (ps : List Pad). slice_get ps k) (sym ports) ∙ at in
-      let one = mapped_from (λ (x : Chosen). x.pad) chosen k pad place in
-      let same : pad ≡ given.0.pad = sym one.2 ∙ all_of_given parts bonded.pads n step.0 [] (wants d) chosen (no_pads step.0) step.2 k one.0 given.0 one.1 given.1 in
-      given.2 ∙ ap Some (sym same)
-
-  kept_by : (o : Option PackageRows) → o ≡ Some bonded → assigned parts constraints n (wants d) (buffers d) o ≡ Ok pads → lookup (bytes_eq c.pin) bonded.pins ≡ Some pad
-  kept_by None found e = absurd (cc)
-  kept_by (Some rows) found e =
-      let same : rows ≡ bonded = cc in
-      let here : assigned parts constraints n (wants d) (buffers d) (Some bonded) ≡ Ok pads = ap (λ (r : PackageRows). assigned parts constraints n (wants d) (buffers d) (Some r)) (sym same) ∙ e in
-      let step = bind_ok (chosen_by parts bonded constraints n (wants d)) (λ chosen. globals_of parts (buffers d (chosen_pads chosen)) >>= (λ taken. Ok (pads_with chosen taken))) pads here in
-      let next = bind_ok (globals_of parts (buffers d (chosen_pads step.0))) (λ taken. Ok (pads_with step.0 taken)) pads step.2 in
-      let made : pads_with step.0 next.0 ≡ pads = let is = next.2 in cc in
-      by_chosen step.0 step.1 (ap (λ (p : PadsData). p.ports) (sym made))
-
-pub constraints_kept : (parts : Parts) (name : List ℕ) (bonded : PackageRows) (constraints : List Constraint) (n : NetlistData) (d : Design) (pads : PadsData) → package_of parts name ≡ Some bonded
-    → assign_of parts name constraints n d ≡ Ok pads → (c : Constraint) (k : ℕ) (pad : Pad) → Has constraints c → port_named n c.name ≡ Some k → At pads.ports k pad → lookup (bytes_eq c.pin) bonded.pins ≡ Some pad
-constraints_kept parts name bonded constraints n d pads found e c k pad has named at = kept_by parts bonded constraints n d pads c k pad has named at (package_of parts name) found e
-
 -- ---- pads of a package
 pub stands_in : (pad : Pad) (pads : List Pad) → list_any (same_pad pad) pads ≡ true → Has pads pad
 stands_in pad [] e = absurd (true≢false (sym e))
@@ -153,15 +136,79 @@ stands_in pad (p ∷ pads) e = by (same_pad pad p) refl (stands_in pad pads) e
     by true is later e = (0, ap Some (sym (pad_same pad p is)))
     by false is later e = let there = later e in (suc there.0, there.1)
 
--- Ports have the pads that are assigned by one design of their netlist, where these are as well those of some design in that package.
-pub ports_have_pads : (parts : Parts) (name : List ℕ) (bonded : PackageRows) (constraints : List Constraint) (n : NetlistData) (d e : Design) (pads of : PadsData) → package_of parts name ≡ Some bonded
-    → assign_of parts name constraints n d ≡ Ok pads → ArePads parts bonded e of → of.ports ≡ pads.ports → length pads.ports ≡ length n.ports → HavePads bonded constraints n pads.ports
-ports_have_pads parts name bonded constraints n d e pads of found assigned are same each = record {
-  each = each;
-  of_package = λ k pad at. stands_in pad bonded.pads (are.bonded k pad (there k pad at));
-  apart = λ j k pad at be. are.apart j k pad (there j pad at) (there k pad be);
-  constrained = constraints_kept parts name bonded constraints n d pads found assigned;
-}
-  where
-    there : (k : ℕ) (pad : Pad) → At pads.ports k pad → slice_get of.ports k ≡ Some pad
-    there k pad at = ap (λ (ps : List Pad). slice_get ps k) same ∙ at
+-- ---- the ports that are seen from outside
+module _ (parts : Parts) (rows : PackageRows) (constraints : List Constraint) (n : NetlistData) (closing : Closing) (ws : List Want) (buffers : List Pad → List Buffer) (pads : PadsData) (m : IsMade parts rows constraints n closing ws buffers pads)
+    (parted : AreParted parts rows closing.rams m.given m.seen m.hidden (take closing.first ws) (drop closing.first ws)) where
+  -- behind them stand those of block RAMs
+  few_seen : (k j : ℕ) (c : Chosen) → k < closing.first → k ≡ length m.seen + j → slice_get m.hidden j ≡ Some c → ⊥
+  few_seen k j c lt e at =
+      let some = At_within m.hidden j c at in
+      let hidden = parted.pinned.long in
+      let seen = parted.long in
+      let before = length-take closing.first ws in
+      let behind = length-drop closing.first ws in
+      omega (arith, lt, e, some, hidden, seen, before, behind)
+
+  -- what such a port got
+  seen_at : (k : ℕ) (pad : Pad) → At (take closing.first pads.ports) k pad → (c : Chosen) × (slice_get m.seen k ≡ Some c) × (c.pad ≡ pad)
+  seen_at k pad at =
+      let there = At_take closing.first pads.ports k pad at in
+      let found = mapped_from (λ (x : Chosen). x.pad) (m.seen ++ m.hidden) k pad (ap (λ (p : PadsData). slice_get p.ports k) m.made ∙ there.1) in
+      by there.0 found.0 found.2 (At_parts m.seen m.hidden k found.0 found.1)
+    where
+      by : k < closing.first → (c : Chosen) → c.pad ≡ pad → (slice_get m.seen k ≡ Some c) ⊎ ((j : ℕ) × (k ≡ length m.seen + j) × (slice_get m.hidden j ≡ Some c)) → (c : Chosen) × (slice_get m.seen k ≡ Some c) × (c.pad ≡ pad)
+      by lt c is (inl here) = (c, here, is)
+      by lt c is (inr (j, e, there)) = absurd (few_seen k j c lt e there)
+
+  -- which is of the package
+  seen_so : (k : ℕ) (pad : Pad) → At (take closing.first pads.ports) k pad → list_any (same_pad pad) rows.pads ≡ true
+  seen_so k pad at = let one = seen_at k pad at in ap (λ (p : Pad). list_any (same_pad p) rows.pads) (sym one.2) ∙ parted.are.bonded k one.0 one.1
+
+  -- a port that a constraint names has the pad of the constraint's pin
+  kept : (c : Constraint) (k : ℕ) (pad : Pad) → Has constraints c → port_named (with_first closing.first n) c.name ≡ Some k → At (take closing.first pads.ports) k pad → lookup (bytes_eq c.pin) rows.pins ≡ Some pad
+  kept c k pad has named at =
+      let one = seen_at k pad at in
+      let given = lines_give_pins parts rows.pins (with_first closing.first n) (take closing.first ws) [] constraints m.given has.0 c k m.lines has.1 named in
+      let same : pad ≡ given.0.pad
+      = sym one.2 ∙ all_of_given parts rows.pads (with_first closing.first n) m.given [] (take closing.first ws) m.seen (no_pads m.given) m.ports k one.0 given.0 one.1 given.1 in
+      given.2 ∙ ap Some (sym same)
+
+  seen_have_pads : length pads.ports ≡ length n.ports → HavePads rows constraints (with_first closing.first n) (take closing.first pads.ports)
+  seen_have_pads each = record {
+    each = length-take closing.first pads.ports ∙ ap (min closing.first) each ∙ sym (length-take closing.first n.ports);
+    of_package = λ k pad at. stands_in pad rows.pads (seen_so k pad at);
+    apart = λ j k pad at be.
+        let one = seen_at j pad at in
+        let two = seen_at k pad be in
+        parted.are.apart j k one.0 two.0 one.1 two.1 (one.2 ∙ sym two.2);
+    constrained = kept;
+  }
+
+module _ (parts : Parts) (name : List ℕ) (bonded : PackageRows) (constraints : List Constraint) (n : NetlistData) (closing : Closing) (d : Design) (pads : PadsData) (chip : IsChip parts) (found : package_of parts name ≡ Some bonded)
+    (is : assign_of parts name constraints n closing d ≡ Ok pads) where
+  form : IsPackage parts.width parts.height bonded
+  form = found_package parts.width parts.height (λ p. bytes_eq p.name name) parts.packages bonded chip.read.package_forms found
+
+  made : IsMade parts bonded constraints n closing (wants d) (buffers d) pads
+  made = made_of parts bonded constraints n closing (wants d) (buffers d) pads (ap (assigned parts constraints n closing (wants d) (buffers d)) (sym found) ∙ is)
+
+  parted : AreParted parts bonded closing.rams made.given made.seen made.hidden (take closing.first (wants d)) (drop closing.first (wants d))
+  parted = parted_of parts bonded constraints n closing (wants d) (buffers d) pads form.pads made
+
+  -- the ports that are seen from outside have pads of the package
+  pub seen_bonded : (k : ℕ) (pad : Pad) → At (take closing.first pads.ports) k pad → list_any (same_pad pad) bonded.pads ≡ true
+  seen_bonded = seen_so parts bonded constraints n closing (wants d) (buffers d) pads made parted
+
+  -- and have them as the constraints say
+  pub ports_have_pads : length pads.ports ≡ length n.ports → HavePads bonded constraints (with_first closing.first n) (take closing.first pads.ports)
+  ports_have_pads = seen_have_pads parts bonded constraints n closing (wants d) (buffers d) pads made parted
+
+-- where all ports are seen from outside, all have them so
+pub all_have_pads : (bonded : PackageRows) (constraints : List Constraint) (n : NetlistData) (closing : Closing) (ports : List Pad) → closing ≡ open_closing n → length ports ≡ length n.ports
+    → HavePads bonded constraints (with_first closing.first n) (take closing.first ports) → HavePads bonded constraints n ports
+all_have_pads bonded constraints n closing ports is_open each have =
+    let first : closing.first ≡ length n.ports = ap (λ (c : Closing). c.first) is_open in
+    let few = take_all closing.first ports (omega (arith, each, first)) in
+    let all = take_all closing.first n.ports (omega (arith, first)) in
+    let circuit : with_first closing.first n ≡ n = ap (λ (ps : List Port). record { names = n.names; ports = ps; cells = n.cells }) all in
+    subst (λ (ps : List Pad). HavePads bonded constraints n ps) few (subst (λ (m : NetlistData). HavePads bonded constraints m (take closing.first ports)) circuit have)

@@ -1,5 +1,5 @@
 -- What is known where an answer is a value.
-use Rattle.std.proofs.Common.{◌≡◌, ◌⊎◌, inl, inr, ℕ, zero, suc, Bool, true, false, Option, None, Some, Result, Ok, Err, List, [], ◌∷◌, ◌++◌, length, slice_get, if◌then◌else◌, refl, arith}
+use Rattle.std.proofs.Common.{◌≡◌, ◌⊎◌, inl, inr, ℕ, zero, suc, Bool, true, false, Option, None, Some, Result, Ok, Err, List, [], ◌∷◌, ◌++◌, length, slice_get, if◌then◌else◌, refl, sym, ◌∙◌, arith}
 use Rattle.std.specs.Option.{option_or}
 use Rattle.ice_pads.specs.declared.fault.PinFault.{PinFault}
 use Rattle.ice_pads.specs.Constraints.{◌>>=◌}
@@ -8,6 +8,10 @@ use Rattle.ice_pads.specs.Constraints.{◌>>=◌}
 pub bind_ok : {A B : Type 0} (m : Result A PinFault) (next : A → Result B PinFault) (v : B) → m >>= next ≡ Ok v → (x : A) × (m ≡ Ok x) × (next x ≡ Ok v)
 bind_ok (Ok x) next v e = (x, refl, e)
 bind_ok (Err fault) next v e = absurd (cc)
+
+-- two answers that are the same have the same value
+pub ok_same : {A : Type 0} (v w : A) (one two : Result A PinFault) → one ≡ Ok v → two ≡ Ok w → one ≡ two → v ≡ w
+ok_same v w one two is be e = let same : Ok v ≡ Ok w = sym is ∙ e ∙ be in cc
 
 -- a value that is answered where a test passes
 pub if_ok : {A : Type 0} (b : Bool) (v w : A) (fault : PinFault) → (if b then Ok v else Err fault) ≡ Ok w → (b ≡ true) × (v ≡ w)

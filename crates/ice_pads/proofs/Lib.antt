@@ -9,11 +9,12 @@ mod Fits
 mod Inversions
 mod GivenLaws
 mod ChosenLaws
-mod PackageLaws
+pub mod PackageLaws
+mod RamPorts
+mod OuterPorts
 mod GlobalLaws
 mod DirectLaws
 pub mod AssignLaws
 pub mod HavingPads
 pub mod Fewer
-pub mod IoKinds
 pub mod SameWants

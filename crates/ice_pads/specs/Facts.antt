@@ -7,21 +7,23 @@ use Rattle.ice_pcf.specs.declared.constraint.Constraint.{Constraint}
 use Rattle.ice_chip.specs.Database.{Parts, PackageRows, same_pad}
 use Rattle.ice_chip.specs.Lookups.{package_of, global_of, gbufpin_of, padin_of}
 use Rattle.ice_chip.specs.IsRead.{IsChip}
-use Rattle.ice_chip.specs.Names.{pad_input_name, pad_output_name, output_enable_name}
+use Rattle.ice_chip.specs.Names.{output_enable_name}
 use Rattle.ice_chip.specs.WireNames.{fabout_name}
 use Rattle.ice_chip.specs.declared.rows.Pad.{Pad}
 use Rattle.ice_cells.specs.declared.design.DesignPad.{DesignPad}
 use Rattle.ice_cells.specs.declared.design.Design.{Design}
 use Rattle.ice_cells.specs.declared.root.Root.TheVariants.{PadIn}
-use Rattle.ice_pads.specs.PadWires.{has_io_wire}
+use Rattle.ice_chip_sockets.specs.Sockets.{has_io_wire, gives, is_driven}
+use Rattle.ice_chip_sockets.specs.Pins.{IsRamPin}
+use Rattle.ice_pads.specs.declared.closing.Closing.{Closing}
 use Rattle.ice_pads.specs.Globals.{global_wire}
 use Rattle.ice_pads.specs.Assign.{PadsData, assign_of}
 
 -- the pad has the wires that a pad of a design needs: a pad that is read its input, one that drives its output, and one that
 -- drives where it is enabled its enable
 pub record HasWires (parts : Parts) (p : DesignPad) (pad : Pad) : Type 0 where
-  pub input : p.reads ≡ true → has_io_wire parts pad.tile (pad_input_name pad.pio) ≡ true
-  pub output : (p.pin_type ≡ 25) ⊎ (p.pin_type ≡ 41) → has_io_wire parts pad.tile (pad_output_name pad.pio) ≡ true
+  pub input : p.reads ≡ true → gives parts pad ≡ true
+  pub output : (p.pin_type ≡ 25) ⊎ (p.pin_type ≡ 41) → is_driven parts pad ≡ true
   pub enable : p.pin_type ≡ 41 → has_io_wire parts pad.tile (output_enable_name pad.pio) ≡ true
 
 -- a wire has the name of the global
@@ -46,13 +48,13 @@ pub record IsFed (parts : Parts) (n : ℕ) : Type 0 where
   pub feeds : global_of parts n ≡ Some tile
   pub fabout : has_io_wire parts tile fabout_name ≡ true
 
--- what is known of the pads and globals of a design in a package
-pub record ArePads (parts : Parts) (rows : PackageRows) (d : Design) (pads : PadsData) : Type 0 where
+-- what is known of the pads and globals of a design in a package, beside so many block RAMs
+pub record ArePads (parts : Parts) (rows : PackageRows) (rams : ℕ) (d : Design) (pads : PadsData) : Type 0 where
   -- each port has a pad, and a pull-up or none
   pub ports : length pads.ports ≡ length d.pads
   pub pullups : length pads.pullups ≡ length d.pads
-  -- the pad is one of the package, no other port has it, and it has the wires that the port needs
-  pub bonded : (k : ℕ) (pad : Pad) → slice_get pads.ports k ≡ Some pad → list_any (same_pad pad) rows.pads ≡ true
+  -- the pad is one of the package, or a pin of one of the block RAMs; no other port has it, and it has the wires that the port needs
+  pub bonded : (k : ℕ) (pad : Pad) → slice_get pads.ports k ≡ Some pad → (list_any (same_pad pad) rows.pads ≡ true) ⊎ IsRamPin parts rams pad
   pub apart : (j k : ℕ) (pad : Pad) → slice_get pads.ports j ≡ Some pad → slice_get pads.ports k ≡ Some pad → j ≡ k
   pub wires : (k : ℕ) (p : DesignPad) (pad : Pad) → slice_get d.pads k ≡ Some p → slice_get pads.ports k ≡ Some pad → HasWires parts p pad
   -- each global buffer has a global of which there is a wire, and no other has the same one
@@ -70,5 +72,5 @@ pub record ArePads (parts : Parts) (rows : PackageRows) (d : Design) (pads : Pad
 -- assigned pads and globals are such
 abbrev pub AssignedPadsFit : Type 0
 AssignedPadsFit =
-    (parts : Parts) (name : List ℕ) (constraints : List Constraint) (n : NetlistData) (d : Design) (rows : PackageRows) (pads : PadsData)
-    → IsChip parts → package_of parts name ≡ Some rows → assign_of parts name constraints n d ≡ Ok pads → ArePads parts rows d pads
+    (parts : Parts) (name : List ℕ) (constraints : List Constraint) (n : NetlistData) (closing : Closing) (d : Design) (rows : PackageRows) (pads : PadsData)
+    → IsChip parts → package_of parts name ≡ Some rows → assign_of parts name constraints n closing d ≡ Ok pads → ArePads parts rows closing.rams d pads

@@ -16,7 +16,7 @@ use Rattle.ice_pads.specs.declared.want.Pins.{Pins}
 use Rattle.ice_pads.specs.declared.fault.PinFault.{PinFault}
 use Rattle.ice_pads.specs.declared.fault.PinFault.TheVariants.{TooManyGlobals}
 use Rattle.ice_pads.specs.Constraints.{first_passing}
-use Rattle.ice_pads.specs.PadWires.{has_io_wire}
+use Rattle.ice_chip_sockets.specs.Sockets.{has_io_wire}
 
 -- ---- the globals of a chip
 -- one of the wire's names is this one

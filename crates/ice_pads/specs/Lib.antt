@@ -5,5 +5,6 @@ pub mod Ports
 pub mod Globals
 pub mod Answers
 pub mod Tables
+pub mod Closings
 pub mod Assign
 pub mod Facts

@@ -1,15 +1,18 @@
 //! The pads, pull-ups and globals of a design.
-ghost use Rattle.std.specs.Prelude.{◌≡◌, IfOk};
+ghost use Rattle.std.specs.Prelude.{◌≡◌, take, drop, IfOk};
 ghost use Rattle.ice_chip.specs.Views.{package_view};
 ghost use Rattle.ice_pads.specs.Assign.{pads_with, chosen_by, assign_of};
 ghost use Rattle.ice_pads.specs.Answers.{Answers, Lists};
+ghost use Rattle.ice_pads.specs.Closings.{with_first};
 
 use crate::choices::{Taken, globals_of};
 use crate::choosing::choose_all;
 use crate::lines::give_all;
+use crate::outer::Outer;
 use crate::progress::Progress;
+use crate::rams::add_rams;
 use crate::tables::Tables;
-use crate::{Chosen, PinFault, Want, wants};
+use crate::{Chosen, Closing, PinFault, Want, wants};
 use ice_base::NoMemory;
 use ice_bits_rows::Index;
 use ice_cells::Design;
@@ -92,39 +95,39 @@ fn pads_with(alloc: Global, chosen: &[Chosen], taken: Taken) -> Result<Pads, NoM
     })
 }
 
-// What all ports get of a package.
+// What the ports that are seen from outside get of a package.
 fn chosen_by(
     alloc: Global,
     chip: &Chip,
     bonded: &Package,
     lines: &[Constraint],
-    netlist: &Netlist,
+    outer: &Outer<'_>,
     wants: &[Want],
 ) -> Result<Vec<Chosen>, PinFault>
-    ensures { Lists result
-        (chosen_by chip.now (package_view bonded.now) lines.now netlist.now wants.now) }
+    ensures { Lists result (chosen_by chip.now (package_view bonded.now) lines.now
+        (with_first outer.now.first outer.now.netlist.now) wants.now) }
 {
     let mut tables = Tables::new(alloc);
-    give_all(
-        alloc,
-        chip,
-        &bonded.pins,
-        netlist,
-        wants,
-        &mut tables,
-        lines,
-    )?;
+    give_all(alloc, chip, &bonded.pins, outer, wants, &mut tables, lines)?;
     let mut progress = Progress::new(alloc);
     choose_all(
         alloc,
         chip,
         bonded.pads.as_slice(),
-        netlist,
+        outer,
         &tables,
         &mut progress,
         wants,
     )?;
     Ok(progress.chosen)
+}
+
+// What the ports that are seen from outside want, and what those of block RAMs want.
+fn parted(wants: &[Want], first: usize) -> (&[Want], &[Want])
+    ensures seen { result.0.now ≡ take first wants.now }
+    ensures hidden { result.1.now ≡ drop first wants.now }
+{
+    wants.split_at(first.min(wants.len()))
 }
 
 /// The pads, pull-ups and globals of a design of the netlist on an indexed chip, or the fault, as [`assign`] answers.
@@ -134,40 +137,50 @@ pub fn assign_by(
     name: &[u8],
     pcf: &Pcf,
     netlist: &Netlist,
+    closing: Closing,
     design: &Design,
 ) -> Result<Pads, PinFault>
     ensures { Answers result
-        (assign_of index.now.chip.now name.now pcf.now netlist.now design.now) }
+        (assign_of index.now.chip.now name.now pcf.now netlist.now closing design.now) }
 {
     let Some(bonded) = index.chip.package(name) else {
         return Err(PinFault::NoPackage);
     };
     let wants = wants(alloc, design)?;
-    let chosen = chosen_by(
+    let (seen, hidden) = parted(&wants, closing.first);
+    let outer = Outer {
+        netlist,
+        first: closing.first,
+    };
+    let mut chosen = chosen_by(alloc, index.chip, bonded, pcf.constraints(), &outer, seen)?;
+    let taken = globals_of(alloc, index, design, &chosen)?;
+    add_rams(
         alloc,
         index.chip,
-        bonded,
-        pcf.constraints(),
         netlist,
-        &wants,
+        closing.rams,
+        hidden,
+        &mut chosen,
     )?;
-    let taken = globals_of(alloc, index, design, &chosen)?;
     Ok(pads_with(alloc, &chosen, taken)?)
 }
 
 /// The pads, pull-ups and globals of a design of the netlist, or the fault. Want of memory may be answered at any time;
 /// every other answer is the one of the definition: NoPackage before all, then the first fault of the constraints, then the
-/// first port for which no pad is left, then too few globals.
+/// first port that is seen from outside for which no pad is left, then too few globals, then too few block RAMs, then the first
+/// port of a block RAM whose pin lacks a wire.
 pub fn assign(
     alloc: Global,
     chip: &Chip,
     name: &[u8],
     pcf: &Pcf,
     netlist: &Netlist,
+    closing: Closing,
     design: &Design,
 ) -> Result<Pads, PinFault>
-    ensures { Answers result (assign_of chip.now name.now pcf.now netlist.now design.now) }
+    ensures { Answers result
+        (assign_of chip.now name.now pcf.now netlist.now closing design.now) }
 {
     let index = Index::new(alloc, chip)?;
-    assign_by(alloc, &index, name, pcf, netlist, design)
+    assign_by(alloc, &index, name, pcf, netlist, closing, design)
 }

@@ -2,16 +2,16 @@
 ghost use Rattle.std.specs.Prelude.{◌≡◌, ◌<◌, false, find, take, length, slice_get, OnOk, IfSome};
 ghost use Rattle.std.specs.List.{list_any};
 ghost use Rattle.std.specs.Option.{option_and_then};
+ghost use Rattle.ice_pads.specs.Closings.{with_first};
 ghost use Rattle.ice_pads.specs.Ports.{is_free, is_fit, by_free, next_chosen, with_next, all_chosen};
 ghost use Rattle.ice_pads.specs.Tables.{AreKept, AreTaken, AreDone};
 ghost use Rattle.ice_pads.specs.Answers.{Extends};
 
-use crate::places::port_name;
+use crate::outer::{Outer, outer_name};
 use crate::progress::{Progress, kind_of};
 use crate::tables::Tables;
 use crate::{Chosen, PinFault, Want, suits};
 use ice_chip::{Chip, Pad};
-use ice_net::Netlist;
 use std::alloc::Global;
 
 // Whether no constraint gives the pad, and no port before has it.
@@ -65,7 +65,7 @@ fn choose_free(
     alloc: Global,
     chip: &Chip,
     pads: &[Pad],
-    netlist: &Netlist,
+    outer: &Outer<'_>,
     tables: &Tables,
     progress: &mut Progress,
     want: Want,
@@ -73,12 +73,12 @@ fn choose_free(
     requires kept { AreKept tables.now }
     requires done { AreDone chip.now pads.now tables.now.given.items progress.old }
     ensures chosen { Extends result progress.new.chosen.items (with_next progress.old.chosen.items
-        (by_free netlist.now (length progress.old.chosen.items) want
+        (by_free (with_first outer.now.first outer.now.netlist.now) (length progress.old.chosen.items) want
         (find (is_fit chip.now tables.now.given.items progress.old.chosen.items want) pads.now))) }
     ensures done { OnOk result (AreDone chip.now pads.now tables.now.given.items progress.new) }
 {
     let Some(place) = first_fit(chip, pads, tables, progress, want) else {
-        let port = port_name(alloc, netlist, progress.chosen.len())?;
+        let port = outer_name(alloc, outer, progress.chosen.len())?;
         return Err(PinFault::NoPadLeft { port });
     };
     progress.starts[kind_of(want)] = place;
@@ -94,7 +94,7 @@ fn choose(
     alloc: Global,
     chip: &Chip,
     pads: &[Pad],
-    netlist: &Netlist,
+    outer: &Outer<'_>,
     tables: &Tables,
     progress: &mut Progress,
     want: Want,
@@ -102,12 +102,12 @@ fn choose(
     requires kept { AreKept tables.now }
     requires done { AreDone chip.now pads.now tables.now.given.items progress.old }
     ensures chosen { Extends result progress.new.chosen.items
-        (with_next progress.old.chosen.items (next_chosen chip.now pads.now netlist.now
+        (with_next progress.old.chosen.items (next_chosen chip.now pads.now (with_first outer.now.first outer.now.netlist.now)
         tables.now.given.items progress.old.chosen.items want)) }
     ensures done { OnOk result (AreDone chip.now pads.now tables.now.given.items progress.new) }
 {
     let Some(given) = tables.of_port(progress.chosen.len()) else {
-        return choose_free(alloc, chip, pads, netlist, tables, progress, want);
+        return choose_free(alloc, chip, pads, outer, tables, progress, want);
     };
     progress.push(Chosen {
         pad: given.pad,
@@ -121,18 +121,18 @@ pub fn choose_all(
     alloc: Global,
     chip: &Chip,
     pads: &[Pad],
-    netlist: &Netlist,
+    outer: &Outer<'_>,
     tables: &Tables,
     progress: &mut Progress,
     wants: &[Want],
 ) -> Result<(), PinFault>
     requires kept { AreKept tables.now }
     requires done { AreDone chip.now pads.now tables.now.given.items progress.old }
-    ensures { Extends result progress.new.chosen.items (all_chosen chip.now pads.now netlist.now
+    ensures { Extends result progress.new.chosen.items (all_chosen chip.now pads.now (with_first outer.now.first outer.now.netlist.now)
         tables.now.given.items progress.old.chosen.items wants.now) }
 {
     for want in wants {
-        choose(alloc, chip, pads, netlist, tables, progress, *want)?;
+        choose(alloc, chip, pads, outer, tables, progress, *want)?;
     }
     Ok(())
 }

@@ -24,16 +24,16 @@ pub enum PinFault {
     /// Two lines give one port its pad.
     #[error("lines {first} and {second}: one port")]
     PortTwice { first: u32, second: u32 },
-    /// No free pad has the wires that this port needs.
+    /// No free pad has the wires that this port needs, or no pin is left for a port of a RAM.
     #[error("no pad left")]
     NoPadLeft { port: Name },
     /// More global buffers than globals that can be taken.
     #[error("{need} global buffers, {have} globals")]
     TooManyGlobals { need: u32, have: u32 },
-    /// More RAMs than can be taken. None can be built yet, so that there are 0.
+    /// More RAMs than the chip has.
     #[error("{need} RAMs, {have} that can be taken")]
     TooManyRams { need: u32, have: u32 },
-    /// The pad that a constraint gives to this port lacks a wire that it needs.
+    /// The pad that a constraint gives to this port, or the pin of a RAM that it gets, lacks a wire that it needs.
     #[error("a pad without the wires")]
     PadLacks { port: Name },
     /// Want of memory.

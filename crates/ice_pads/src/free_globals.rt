@@ -6,10 +6,10 @@ ghost use Rattle.ice_pads.specs.Constraints.{first_passing};
 ghost use Rattle.ice_pads.specs.Globals.{has_name, global_wire, is_same_tile, is_fed, some_lower, is_global, globals, is_joined_to, is_logic_kind, reaches, serves};
 
 use crate::Pins;
-use crate::wires::has_io_wire;
 use ice_base::{NoMemory, TileAt, WireNo};
 use ice_bits_rows::{Index, is_joined};
 use ice_chip::{Chip, TileKind, clock_enable_name, fabout_name, global_name, set_reset_name};
+use ice_chip_sockets::has_io_wire;
 use std::alloc::Global;
 
 // Whether one of the wire's names is this one.

@@ -4,6 +4,7 @@
 mod assigning;
 mod choices;
 mod choosing;
+mod closing;
 mod direct;
 mod fault;
 mod free_globals;
@@ -11,13 +12,16 @@ mod given;
 mod laws;
 mod lines;
 mod needs;
+mod outer;
 mod places;
 mod progress;
+mod rams;
 mod tables;
 mod want;
 mod wires;
 
 pub use assigning::{Pads, assign, assign_by};
+pub use closing::Closing;
 pub use fault::PinFault;
 pub use free_globals::{global_wire, globals, serves};
 pub use given::{Chosen, Given};

@@ -1,15 +1,15 @@
 //! What constraints give to ports, line by line.
 ghost use Rattle.std.specs.Prelude.{◌≡◌, OnOk};
+ghost use Rattle.ice_pads.specs.Closings.{with_first};
 ghost use Rattle.ice_pads.specs.Constraints.{want_of, free_pad, by_port, given_by};
-ghost use Rattle.ice_pads.specs.Tables.{AreKept, ArePlaces};
+ghost use Rattle.ice_pads.specs.Tables.{AreKept};
 ghost use Rattle.ice_pads.specs.Answers.{Extends};
 
-use crate::places::{places_of, port_name, port_named};
+use crate::outer::{Outer, outer_name, outer_places, port_named};
 use crate::tables::Tables;
 use crate::{Given, PinFault, Want, suits};
 use ice_base::Name;
 use ice_chip::{Chip, Pad};
-use ice_net::Netlist;
 use ice_pcf::Constraint;
 use indexmap::IndexMap;
 use std::alloc::Global;
@@ -62,7 +62,7 @@ fn give_line(
     alloc: Global,
     chip: &Chip,
     pins: &IndexMap<Name, Pad>,
-    netlist: &Netlist,
+    outer: &Outer<'_>,
     wants: &[Want],
     tables: &mut Tables,
     line: &Constraint,
@@ -70,7 +70,7 @@ fn give_line(
 ) -> Result<(), PinFault>
     requires { AreKept tables.old }
     ensures given { Extends result tables.new.given.items (by_port chip.now pins.now.entries
-        netlist.now wants.now tables.old.given.items line.now port) }
+        (with_first outer.now.first outer.now.netlist.now) wants.now tables.old.given.items line.now port) }
     ensures kept { OnOk result (AreKept tables.new) }
 {
     let Some(port) = port else {
@@ -81,7 +81,7 @@ fn give_line(
     };
     let pad = free_pad(pins, tables, line, port)?;
     if !suits(chip, want_of(wants, port), pad) {
-        let port = port_name(alloc, netlist, port)?;
+        let port = outer_name(alloc, outer, port)?;
         return Err(PinFault::PadLacks { port });
     }
     tables.push(Given {
@@ -98,20 +98,20 @@ pub fn give_all(
     alloc: Global,
     chip: &Chip,
     pins: &IndexMap<Name, Pad>,
-    netlist: &Netlist,
+    outer: &Outer<'_>,
     wants: &[Want],
     tables: &mut Tables,
     lines: &[Constraint],
 ) -> Result<(), PinFault>
     requires { AreKept tables.old }
     ensures given { Extends result tables.new.given.items (given_by chip.now pins.now.entries
-        netlist.now wants.now tables.old.given.items lines.now) }
+        (with_first outer.now.first outer.now.netlist.now) wants.now tables.old.given.items lines.now) }
     ensures kept { OnOk result (AreKept tables.new) }
 {
-    let places = places_of(alloc, netlist.ports())?;
+    let places = outer_places(alloc, outer)?;
     for line in lines {
-        let port = port_named(netlist, &places, line.name.as_bytes());
-        give_line(alloc, chip, pins, netlist, wants, tables, line, port)?;
+        let port = port_named(outer, &places, line.name.as_bytes());
+        give_line(alloc, chip, pins, outer, wants, tables, line, port)?;
     }
     Ok(())
 }

@@ -1,7 +1,7 @@
-//! The ports of a netlist by their names, and the names of ports.
+//! The places of ports, and their names.
 ghost use Rattle.std.specs.Prelude.{◌≡◌, ◌==◌, ℕ, ◌<◌, length, slice_index_or, None, Some, if◌then◌else◌, OnOk, IfOk};
 ghost use Rattle.std.specs.Option.{option_or};
-ghost use Rattle.ice_pads.specs.Constraints.{place_of_port, port_named, port_name};
+ghost use Rattle.ice_pads.specs.Constraints.{port_name};
 ghost use Rattle.ice_pads.specs.Tables.{ArePlaces};
 
 use ice_base::{Name, NoMemory, SignalNo, name_of};
@@ -43,15 +43,6 @@ pub fn places_of(alloc: Global, ports: &[Port]) -> Result<Vec<Option<usize>>, No
         note(&mut places, port.signal, place)?;
     }
     Ok(places)
-}
-
-/// The place of the port of a name; None exactly where no port has it.
-pub fn port_named(netlist: &Netlist, places: &[Option<usize>], name: &[u8]) -> Option<usize>
-    requires { ArePlaces netlist.now.ports places.now }
-    ensures { result ≡ port_named netlist.now name.now }
-{
-    let signal = netlist.find(name)?;
-    *places.get(signal.0 as usize)?
 }
 
 /// The name of the port at a place; nothing where there is none.

@@ -19,9 +19,10 @@ use Rattle.ice_cells.specs.Runs.{design_of}
 use Rattle.ice_pads.specs.Globals.{globals}
 use Rattle.ice_pads.specs.Wants.{wants, buffers}
 use Rattle.ice_pads.specs.Assign.{IsGivenAlike, PadsData, assigned, assign_of}
+use Rattle.ice_pads.specs.declared.closing.Closing.{Closing}
 use Rattle.ice_check_promote.specs.Free.{is_buffer, free_beside}
 use Rattle.ice_check_promote.specs.Promoted.{is_promotable, promoted_clocks, promoted}
-use Rattle.ice_check_promote.proofs.Unpromoted.{without_clocks}
+use Rattle.ice_check_promote.proofs.Unpromoted.{unpromoted}
 use Rattle.ice_pads.proofs.Fewer.{fewer, buffers_long, globals_count}
 use Rattle.ice_pads_promote_laws.proofs.Wanted.{wants_same}
 
@@ -50,19 +51,19 @@ some_free zero most clock all clocks e =
     cc same
 some_free (suc free) most clock all clocks e = omega arith
 
-pub given_same : (n : NetlistData) (free : ℕ) (parts : Parts) (name : List ℕ) (constraints : List Constraint) (pads : PadsData) → IsFormed n → IsFormed (promoted n free)
-    → free ≡ free_beside (length (globals parts)) n → assign_of parts name constraints n (design_of (promoted n free)) ≡ Ok pads → IsGivenAlike parts name constraints n pads
-given_same n free parts name constraints pads formed after beside e = by (promoted_clocks n free) refl
+pub given_same : (n : NetlistData) (outer : List SignalNo) (free : ℕ) (parts : Parts) (name : List ℕ) (constraints : List Constraint) (closing : Closing) (pads : PadsData) → IsFormed n → IsFormed (promoted n [] free) → IsFormed (promoted n outer free)
+    → free ≡ free_beside (length (globals parts)) n → assign_of parts name constraints n closing (design_of (promoted n outer free)) ≡ Ok pads → IsGivenAlike parts name constraints n closing pads
+given_same n outer free parts name constraints closing pads formed bare after beside e = by (promoted_clocks n free) refl
   where
-    by : (clocks : List ℕ) → promoted_clocks n free ≡ clocks → IsGivenAlike parts name constraints n pads
+    by : (clocks : List ℕ) → promoted_clocks n free ≡ clocks → IsGivenAlike parts name constraints n closing pads
     by [] none = (
       record { numbers = pads.globals; direct = pads.direct },
-      ap (λ m. assign_of parts name constraints n (design_of m)) (sym (without_clocks n (promoted_clocks n free) none)) ∙ e,
+      ap (λ m. assign_of parts name constraints n closing (design_of m)) (sym (unpromoted n outer free [] (sym none) refl)) ∙ e,
     )
     by (clock ∷ clocks) some =
         let all = filter (is_promotable n) (range_with_len 0 (length n.names)) in
         let positive = some_free free (most_signals - length n.names) clock all clocks some in
         let count = count_is (plan_of n) n.cells in
-        fewer parts constraints n (wants (design_of n)) (buffers (design_of (promoted n free))) (buffers (design_of n)) (package_of parts name) pads
+        fewer parts constraints n closing (wants (design_of n)) (buffers (design_of (promoted n outer free))) (buffers (design_of n)) (package_of parts name) pads
         (λ ports. let long = buffers_long (design_of n) ports in let own = globals_count n in omega (arith, long, own, count, positive, beside))
-        (ap (λ ws. assigned parts constraints n ws (buffers (design_of (promoted n free))) (package_of parts name)) (sym (wants_same n free formed after)) ∙ e)
+        (ap (λ ws. assigned parts constraints n closing ws (buffers (design_of (promoted n outer free))) (package_of parts name)) (sym (wants_same n outer free formed bare after)) ∙ e)

@@ -1,4 +1,6 @@
 mod NewOrigins
 mod NewReaders
+mod PassedOrigins
+mod PassedReaders
 mod Wanted
 mod Given

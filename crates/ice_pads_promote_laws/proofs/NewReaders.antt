@@ -21,7 +21,9 @@ use Rattle.ice_cells.specs.Origins.{input_origin, origin, origins}
 use Rattle.ice_cells.proofs.TableLaws.{length-table}
 use Rattle.ice_check_promote.specs.Promoted.{buffered, buffered_ins, buffered_cell, buffer, with_buffers}
 use Rattle.ice_check_promote.proofs.Buffers.{at_buffer}
+use Rattle.ice_check_promote.proofs.Clocks.{there_at}
 use Rattle.ice_check_promote.proofs.NewDrivers.{length_names, old_cells, added, long_cells, cell_kept, cell_added, buffer_same}
+use Rattle.ice_check_promote.proofs.Passing.{which}
 use Rattle.ice_pads_promote_laws.proofs.NewOrigins.{origin_old, origin_new}
 use Rattle.ice_pack_laws.proofs.PadRoots.{IsBufferOf, IsOfPad}
 use Rattle.ice_pack_laws.proofs.PadReaders.{read_ins, kind_ins, pad_ins, IsAtPad, ReadsPad, by_cell, by_port}
@@ -38,28 +40,6 @@ pub record HasClock (n : NetlistData) (clock : ℕ) : Type 0 where
   pub is : cell.kind ≡ Flop falling enable kept
   pub clocked : At cell.ins 0 (Some (record { 0 = clock }))
 
--- what a clock input reads: the signal itself, or that of the buffer of a clock
-which : (next : ℕ) (clocks : List ℕ) (s : ℕ) → (buffered next clocks s ≡ s) ⊎ ((j : ℕ) × At clocks j s × (buffered next clocks s ≡ next + j))
-which next [] s = inl refl
-which next (c ∷ clocks) s = by (c == s) refl (which (next + 1) clocks s)
-  where
-    first : next ≡ next + 0
-    first = omega arith
-
-    later : (j : ℕ) → next + 1 + j ≡ next + suc j
-    later j = omega arith
-
-    by : (b : Bool) → (c == s) ≡ b → (buffered (next + 1) clocks s ≡ s) ⊎ ((j : ℕ) × At clocks j s × (buffered (next + 1) clocks s ≡ next + 1 + j))
-        → ((if b then next else buffered (next + 1) clocks s) ≡ s) ⊎ ((j : ℕ) × At (c ∷ clocks) j s × ((if b then next else buffered (next + 1) clocks s) ≡ next + j))
-    by true e rest = inr (0, ap Some (eqb-true c s e), first)
-    by false e (inl same) = inl same
-    by false e (inr found) = inr (suc found.0, found.1, found.2 ∙ later found.0)
-
-some_at : (xs : List ℕ) (i : ℕ) → i < length xs → (x : ℕ) × At xs i x
-some_at [] i lt = absurd (omega (arith, lt))
-some_at (x ∷ xs) zero lt = (x, refl)
-some_at (x ∷ xs) (suc i) lt = some_at xs i (omega (arith, lt))
-
 -- past its end a list of origins has nothing of a pad
 past : (list : List Origin) (s : ℕ) → length list ≤ s → slice_index_or list s (Fixed false) ≡ Fixed false
 past [] s le = refl
@@ -67,7 +47,7 @@ past (o ∷ list) zero le = absurd (omega (arith, le))
 past (o ∷ list) (suc s) le = past list s (omega (arith, le))
 
 -- a pad's signal is one of the netlist's
-at_pad_below : (m : NetlistData) (k s : ℕ) → IsAtPad m k (Some (record { 0 = s })) → s < length m.names
+pub at_pad_below : (m : NetlistData) (k s : ℕ) → IsAtPad m k (Some (record { 0 = s })) → s < length m.names
 at_pad_below m k s has = elim (cases_lt s (length m.names)) [
   | inl lt ↦ lt
   | inr ge ↦ (let long = length-table (origin m) (length m.names) in absurd (subst (IsOfPad (origins m) m.cells k) (past (origins m) s (omega (arith, ge, long))) has))
@@ -146,7 +126,7 @@ module _ (n : NetlistData) (clocks : List ℕ) (formed : IsFormed n) (k : ℕ) w
   new_below s has = elim (cases_lt s count) [
     | inl lt ↦ lt
     | inr ge ↦ (let lt = at_pad_below new k s has in let long = length_names n clocks in
-        let found = some_at clocks (s - count) (omega (arith, ge, lt, long)) in
+        let found = there_at clocks (s - count) (omega (arith, ge, lt, long)) in
         let number : s ≡ count + (s - count) = omega (arith, ge) in
         absurd (no_added (s - count) found.0 found.1 (subst (λ m. IsAtPad new k (Some (record { 0 = m }))) number has)))
   ]

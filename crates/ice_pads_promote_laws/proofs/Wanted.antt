@@ -1,5 +1,5 @@
 -- The ports of a netlist with promoted clocks want of their pads what they wanted before.
-use Rattle.std.proofs.Common.{◌≡◌, ℕ, ◌<◌, ◌==◌, Some, List, length, map, refl, arith, ltb-true}
+use Rattle.std.proofs.Common.{◌≡◌, ℕ, ◌<◌, ◌==◌, Some, List, [], length, map, refl, ◌∙◌, subst, arith, ltb-true}
 use Rattle.std.proofs.lemmas.Bool.{and_parts}
 use Rattle.std.proofs.lemmas.Option.{none-some}
 use Rattle.ice_base.specs.declared.number.SignalNo.{SignalNo}
@@ -18,11 +18,16 @@ use Rattle.ice_cells.specs.Readings.{is_read}
 use Rattle.ice_cells.specs.Runs.{design_of}
 use Rattle.ice_pads.specs.Wants.{wants}
 use Rattle.ice_pads.proofs.SameWants.{bare_shape, kind_shape, shape_by, wants_alike}
-use Rattle.ice_check_promote.specs.Promoted.{clock_by, clock_of, is_clock, settled_of, promoted_clocks, promoted}
-use Rattle.ice_check_promote.proofs.Clocks.{promotable, first_in}
-use Rattle.ice_check_promote.proofs.NewDrivers.{buffer_same}
+use Rattle.ice_check_promote.specs.Promoted.{clock_by, clock_of, is_clock, settled_of, with_buffers, promoted_clocks, promoted}
+use Rattle.ice_check_promote.proofs.Buffered.{buffered_facts}
+use Rattle.ice_check_promote.proofs.Clocks.{promotable, clock_below, first_in}
+use Rattle.ice_check_promote.proofs.NewDrivers as drivers
+use Rattle.ice_check_promote.proofs.Passing as passing
+use Rattle.ice_check_promote.proofs.Passing.{IsBuffered}
+use Rattle.ice_check_promote.proofs.Unpromoted.{without_outer}
 use Rattle.ice_check.proofs.Places.{wire, times_has}
 use Rattle.ice_pads_promote_laws.proofs.NewReaders.{HasClock, by_place, reads_new, reads_old}
+use Rattle.ice_pads_promote_laws.proofs.PassedReaders.{reads_after, reads_before}
 use Rattle.ice_pack_laws.proofs.PadReaders.{read_back, read_there}
 use Rattle.ice_pack_laws.proofs.PadsRead.{unread, is_there, there_is}
 
@@ -45,7 +50,7 @@ clocked n free j clock at =
 
 -- ---- pads that are read
 
-module _ (n : NetlistData) (free : ℕ) (formed : IsFormed n) (after : IsFormed (promoted n free)) where
+module _ (n : NetlistData) (free : ℕ) (formed : IsFormed n) (after : IsFormed (with_buffers n (promoted_clocks n free))) where
   abbrev clocks : List ℕ
   clocks = promoted_clocks n free
 
@@ -53,8 +58,9 @@ module _ (n : NetlistData) (free : ℕ) (formed : IsFormed n) (after : IsFormed 
   count = length n.names
 
   abbrev new : NetlistData
-  new = promoted n free
+  new = with_buffers n clocks
 
+  -- where flip-flops read the buffers
   same_read : (k : ℕ) → is_read (unread new) (PadIn k) ≡ is_read (unread n) (PadIn k)
   same_read k =
       both_true (is_read (unread new) (PadIn k)) (is_read (unread n) (PadIn k))
@@ -64,5 +70,29 @@ module _ (n : NetlistData) (free : ℕ) (formed : IsFormed n) (after : IsFormed 
   same_kind : (m : ℕ) (port : Port) (i : ℕ) → shape_by new.cells m port (Some i) ≡ shape_by n.cells m port (Some i)
   same_kind m port i = by_place n clocks formed 0 (λ (cell : Cell). kind_shape m port cell.kind) (bare_shape m port) (λ old. refl) (λ clock out. refl) i
 
-  pub wants_same : wants (design_of new) ≡ wants (design_of n)
-  wants_same = wants_alike n new same_read (λ s. buffer_same n clocks s) same_kind refl
+  buffered_wants : wants (design_of new) ≡ wants (design_of n)
+  buffered_wants = wants_alike n new same_read (λ s. drivers.buffer_same n clocks s) same_kind refl
+
+  -- where covers do, too
+  module _ (outer : List SignalNo) (whole : IsFormed (promoted n outer free)) where
+    abbrev all : NetlistData
+    all = promoted n outer free
+
+    facts : IsBuffered count clocks new
+    facts = buffered_facts n clocks formed (λ j clock at. clock_below n free j clock at)
+
+    all_read : (k : ℕ) → is_read (unread all) (PadIn k) ≡ is_read (unread new) (PadIn k)
+    all_read k =
+        both_true (is_read (unread all) (PadIn k)) (is_read (unread new) (PadIn k))
+        (λ e. there_is new k (read_there new k after (reads_before count clocks outer new facts after k (read_back all k (is_there all k e)))))
+        (λ e. there_is all k (read_there all k whole (reads_after count clocks outer new facts after k (read_back new k (is_there new k e)))))
+
+    passed_wants : wants (design_of all) ≡ wants (design_of new)
+    passed_wants =
+        wants_alike new all all_read (λ s. passing.buffer_same count clocks outer new s)
+        (λ m port i. passing.turned_or count clocks outer (λ (cell : Cell). kind_shape m port cell.kind) (bare_shape m port) (λ cell. refl) new.cells i) refl
+
+pub wants_same : (n : NetlistData) (outer : List SignalNo) (free : ℕ) → IsFormed n → IsFormed (promoted n [] free) → IsFormed (promoted n outer free) → wants (design_of (promoted n outer free)) ≡ wants (design_of n)
+wants_same n outer free formed bare whole =
+    let after : IsFormed (with_buffers n (promoted_clocks n free)) = subst IsFormed (without_outer (length n.names) (promoted_clocks n free) (with_buffers n (promoted_clocks n free))) bare in
+    passed_wants n free formed after outer whole ∙ buffered_wants n free formed after

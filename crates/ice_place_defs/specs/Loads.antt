@@ -4,9 +4,10 @@ use Rattle.std.specs.Option.{option_map_or}
 use Rattle.ice_base.specs.declared.number.TileAt.{TileAt}
 use Rattle.ice_chip.specs.Database.{Parts}
 use Rattle.ice_chip.specs.Lookups.{global_of}
-use Rattle.ice_chip.specs.Names.{input_name, pad_output_name, output_enable_name}
+use Rattle.ice_chip.specs.Names.{input_name, output_enable_name}
 use Rattle.ice_chip.specs.WireNames.{clock_name, clock_enable_name, set_reset_name, fabout_name}
 use Rattle.ice_chip.specs.declared.rows.Pad.{Pad}
+use Rattle.ice_chip_sockets.specs.Sockets.{driven_name}
 use Rattle.ice_cells.specs.declared.cell.Control.{Control}
 use Rattle.ice_cells.specs.declared.cell.LogicCell.{LogicCell}
 use Rattle.ice_cells.specs.declared.cluster.Cluster.{Cluster}
@@ -35,7 +36,7 @@ pin_name Clock = clock_name
 pin_name Enable = clock_enable_name
 pin_name SetReset = set_reset_name
 pin_name Feed = fabout_name
-pin_name (Drive pio) = pad_output_name pio
+pin_name (Drive pio) = driven_name pio
 pin_name (DriveEnable pio) = output_enable_name pio
 
 pub record Load : Type 0 where

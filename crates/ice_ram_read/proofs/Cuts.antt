@@ -10,7 +10,7 @@ use Rattle.ice_blif.specs.Cells.{◌>>=◌}
 use Rattle.ice_blif.specs.FewSignals.{few_signals}
 use Rattle.ice_blif.specs.Registers.{hidden_name}
 use Rattle.ice_blif.specs.State.{named, signal_of}
-use Rattle.ice_ram_read.specs.RamTexts.{RamData}
+use Rattle.ice_ram_read.specs.RamData.{RamData}
 use Rattle.ice_ram_read.specs.ClosedNetlists.{with_cover, port_cover, port_word, port_way, with_ram_port, with_ports, with_ram, cut_says}
 
 pub ports_none : (n : NetlistData) (ram : RamData) (k : ℕ) → with_ports n ram k 0 ≡ n

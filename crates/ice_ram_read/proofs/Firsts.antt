@@ -6,7 +6,8 @@ use Rattle.ice_blif.specs.declared.fault.BlifFault.{BlifFault}
 use Rattle.ice_blif.specs.Cells.{◌>>=◌}
 use Rattle.ice_blif.specs.JoinedLines.{FilledLine, joined, filled}
 use Rattle.ice_blif.specs.FewSignals.{few_signals}
-use Rattle.ice_ram_read.specs.RamTexts.{RamData, AreFirst, rams_said, rams_of}
+use Rattle.ice_ram_read.specs.RamData.{RamData}
+use Rattle.ice_ram_read.specs.RamTexts.{AreFirst, rams_said, rams_of}
 use Rattle.ice_ram.specs.declared.setup.Setup.{Setup}
 use Rattle.ice_ram.specs.Ram.{Kept}
 use Rattle.ice_ram_read.specs.ClosedNetlists.{ClosedNetlistData, ram_of, with_ram, cut_says, closed_by, closed_with}

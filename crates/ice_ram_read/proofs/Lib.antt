@@ -4,3 +4,4 @@ pub mod Starts
 pub mod RamLines
 pub mod Firsts
 pub mod Unclosed
+mod RamClockLists

@@ -2,7 +2,8 @@
 use Rattle.std.proofs.Common.{◌≡◌, true, false, List, [], ◌∷◌, ◌++◌, Option, if◌then◌else◌, codes, bytes_eq, sym, ap, ◌∙◌, append_assoc}
 use Rattle.ice_net.specs.NetlistData.{NetlistData}
 use Rattle.ice_blif.specs.JoinedLines.{FilledLine}
-use Rattle.ice_ram_read.specs.RamTexts.{RamData, listed, before_line, after_line, rams_said}
+use Rattle.ice_ram_read.specs.RamData.{RamData}
+use Rattle.ice_ram_read.specs.RamTexts.{listed, before_line, after_line, rams_said}
 
 -- a line that isn't `.end`
 pub lines_more : (n : NetlistData) (last next : Option RamData) (l : FilledLine) (ls rest : List FilledLine) (rams later all : List RamData)

@@ -2,7 +2,7 @@
 use Rattle.std.proofs.Common.{◌≡◌, ℕ, ◌+◌, ◌/◌, ◌==◌, ◌≤◌, ◌<◌, Bool, List, [], length, length-set, get_or, set, get_or-set_same, get_or-set_other, if◌then◌else◌, inl, inr, refl, sym, ap, subst, ◌∙◌, arith}
 use Rattle.std.proofs.lemmas.Bool.{cases_eq}
 use Rattle.std.proofs.lemmas.List.FromFn.{fill_by_all}
-use Rattle.ice_ram_read.specs.RamTexts.{row_word, new_word, with_row}
+use Rattle.ice_ram_read.specs.RamData.{row_word, new_word, with_row}
 
 -- the first i words are new
 pub record SetTo (old : List (List Bool)) (row : ℕ) (digits : List ℕ) (i : ℕ) (words : List (List Bool)) : Type 0 where

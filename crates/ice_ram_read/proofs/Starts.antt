@@ -4,7 +4,7 @@ use Rattle.ice_base.specs.declared.number.SignalNo.{SignalNo}
 use Rattle.ice_ram.specs.declared.setup.Setup.{Setup}
 use Rattle.ice_ram.specs.Ram.{Kept}
 use Rattle.ice_ram_words.specs.declared.kind.Edges.{Edges}
-use Rattle.ice_ram_read.specs.RamTexts.{RamData}
+use Rattle.ice_ram_read.specs.RamData.{RamData}
 use Rattle.ice_ram_read.specs.ClosedNetlists.{ram_of}
 
 pub started_more : (all left rest : List RamData) (text : RamData) (rams more : List (Setup × Kept)) (ram : Setup × Kept) → map ram_of all ≡ rams ++ map ram_of left → left ≡ text ∷ rest → ram ≡ ram_of text

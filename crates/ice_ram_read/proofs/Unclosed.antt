@@ -6,7 +6,8 @@ use Rattle.ice_blif.specs.Answers.{Gives}
 use Rattle.ice_blif.specs.Cells.{◌>>=◌}
 use Rattle.ice_blif.specs.Grammar.{netlist_of, IsWithinLimits}
 use Rattle.ice_blif.proofs.Kept.{bound}
-use Rattle.ice_ram_read.specs.RamTexts.{RamData, rams_of}
+use Rattle.ice_ram_read.specs.RamData.{RamData}
+use Rattle.ice_ram_read.specs.RamTexts.{rams_of}
 use Rattle.ice_ram_read.specs.ClosedNetlists.{ClosedNetlistData, ram_of, cut_says, closed_by, closed_with, closed_netlist_of, without_rams}
 
 same_closed : (a b : ClosedNetlistData) → (let said : Result ClosedNetlistData BlifFault = Ok a in said) ≡ Ok b → a ≡ b

@@ -17,7 +17,8 @@ use Rattle.ice_blif.specs.FewSignals.{few_signals}
 use Rattle.ice_blif.specs.Registers.{hidden_name}
 use Rattle.ice_blif.specs.State.{named, signal_of, with_cell}
 use Rattle.ice_blif.specs.Grammar.{netlist_of}
-use Rattle.ice_ram_read.specs.RamTexts.{RamData, rams_of}
+use Rattle.ice_ram_read.specs.RamData.{RamData}
+use Rattle.ice_ram_read.specs.RamTexts.{rams_of}
 
 -- ---- the RAM
 abbrev pub setup_of : RamData → Setup

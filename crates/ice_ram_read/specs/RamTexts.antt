@@ -1,26 +1,13 @@
 -- The RAMs of a netlist text, as their lines say them.
-use Rattle.std.specs.Prelude.{◌≡◌, ◌≤◌, ℕ, ◌+◌, ◌-◌, ◌*◌, ◌/◌, ◌%◌, ◌==◌, ◌||◌, Bool, false, List, [], ◌∷◌, ◌++◌, length, map, take, drop, replicate, position, nat_lt, nat_le, unwrap_or, slice_index_or, slice_set, Option, Some, None, option_map, if◌then◌else◌, codes, bytes_eq}
-use Rattle.std.specs.List.{range_with_len}
+use Rattle.std.specs.Prelude.{◌≡◌, ◌≤◌, ℕ, ◌+◌, ◌||◌, Bool, List, [], ◌∷◌, ◌++◌, length, take, drop, replicate, position, nat_le, slice_set, Option, Some, None, option_map, if◌then◌else◌, codes, bytes_eq}
 use Rattle.ice_base.specs.Text.{lines, numbered}
 use Rattle.ice_base.specs.declared.number.SignalNo.{SignalNo}
 use Rattle.ice_net.specs.NetlistData.{NetlistData}
 use Rattle.ice_ram_words.specs.declared.kind.Edges.{Edges}
-use Rattle.ice_ram_words.specs.Words.{edges_of, row_of, place}
+use Rattle.ice_ram_words.specs.Words.{edges_of, place}
 use Rattle.ice_blif.specs.Grammar.{equals_at, is_missing}
 use Rattle.ice_blif.specs.JoinedLines.{FilledLine, joined, filled}
-use Rattle.ice_blif.specs.Parameters.{bits_in}
-
--- a RAM as its lines say it
-pub record RamData : Type 0 where
-  -- the number of its line
-  pub line : ℕ
-  pub edges : Edges
-  -- the signals at its sixty inputs and then its sixteen outputs
-  pub signals : List (Option SignalNo)
-  pub read_mode : ℕ
-  pub write_mode : ℕ
-  -- its 256 words, each with its lowest bit first
-  pub words : List (List Bool)
+use Rattle.ice_ram_read.specs.RamData.{RamData, is_gate, new_ram, param_said}
 
 -- ---- connections
 abbrev pub numbered_signal : ℕ → SignalNo
@@ -46,57 +33,10 @@ abbrev pub signals_said : NetlistData → Edges → List (Option SignalNo) → L
 signals_said n edges signals [] = signals
 signals_said n edges signals (w ∷ ws) = signals_said n edges (connected n edges signals w (equals_at w)) ws
 
--- ---- contents
--- bit n of contents: the last digit is bit 0 (49 is `1`), and a digit that is missing is 0
-abbrev pub digit_at : List ℕ → ℕ → Bool
-digit_at digits n = if nat_lt n (length digits) then slice_index_or digits (length digits - 1 - n) 0 == 49 else false
-
--- word i by the contents of its row of sixteen words
-unfoldable pub row_word : List ℕ → ℕ → List Bool
-row_word digits i = map (λ k. digit_at digits (16 * (i % 16) + k)) (range_with_len 0 16)
-
-abbrev pub new_word : List (List Bool) → ℕ → List ℕ → ℕ → List Bool
-new_word words row digits i = if i / 16 == row then row_word digits i else slice_index_or words i []
-
--- the words after a row has these contents
-unfoldable pub with_row : List (List Bool) → ℕ → List ℕ → List (List Bool)
-with_row words row digits = map (new_word words row digits) (range_with_len 0 256)
-
--- ---- parameters
-abbrev pub mode_of : List ℕ → ℕ
-mode_of value = unwrap_or (bits_in 4 value) 0
-
-abbrev pub mode_said : RamData → List ℕ → List ℕ → RamData
-mode_said ram name value =
-    if bytes_eq name (codes "READ_MODE") then record ram { read_mode = mode_of value }
-    else (if bytes_eq name (codes "WRITE_MODE") then record ram { write_mode = mode_of value }
-    else ram)
-
-abbrev pub value_said : RamData → List ℕ → List ℕ → Option ℕ → RamData
-value_said ram name value None = mode_said ram name value
-value_said ram name value (Some row) = record ram { words = with_row ram.words row value }
-
--- a RAM with the parameter of a line
-abbrev pub param_said : RamData → List (List ℕ) → RamData
-param_said ram [] = ram
-param_said ram (name ∷ []) = ram
-param_said ram (name ∷ value ∷ ws) = value_said ram name value (row_of name)
-
 -- ---- lines
--- all bits are 0
-unfoldable pub no_words : List (List Bool)
-no_words = replicate 256 (replicate 16 false)
-
 abbrev pub opened_by : NetlistData → ℕ → List (List ℕ) → Option Edges → Option RamData
 opened_by n line ws None = None
-opened_by n line ws (Some edges) = Some (record {
-  line = line;
-  edges = edges;
-  signals = signals_said n edges (replicate 76 None) ws;
-  read_mode = 0;
-  write_mode = 0;
-  words = no_words;
-})
+opened_by n line ws (Some edges) = Some (new_ram line edges (signals_said n edges (replicate 76 None) ws))
 
 -- the RAM that the words behind `.gate` or `.subckt` open, if it is one
 abbrev pub opened : NetlistData → ℕ → List (List ℕ) → Option RamData
@@ -106,9 +46,6 @@ opened n line (w ∷ ws) = opened_by n line ws (edges_of w)
 abbrev pub listed : Option RamData → List RamData
 listed None = []
 listed (Some ram) = ram ∷ []
-
-abbrev pub is_gate : List ℕ → Bool
-is_gate word = bytes_eq word (codes ".gate") || bytes_eq word (codes ".subckt")
 
 -- a line makes a cell
 abbrev pub makes_cell : List ℕ → Bool

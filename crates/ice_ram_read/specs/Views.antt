@@ -1,7 +1,7 @@
 -- What contracts see of a RAM's text.
 use Rattle.std.specs.Prelude.{◌≡◌, ◌<◌, length}
 use Rattle.ice_ram_read.specs.declared.ram_text.RamText.TheInside.{Inside}
-use Rattle.ice_ram_read.specs.RamTexts.{RamData}
+use Rattle.ice_ram_read.specs.RamData.{RamData}
 
 abbrev pub text_view : Inside → RamData
 text_view ram = record {

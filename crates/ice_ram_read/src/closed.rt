@@ -2,13 +2,16 @@
 ghost use Rattle.std.specs.Prelude.{◌≡◌, ◌+◌, ◌*◌, List, length, map, IfOk};
 ghost use Rattle.ice_blif.specs.Answers.{Gives};
 ghost use Rattle.ice_blif.specs.Grammar.{IsWithinLimits};
-ghost use Rattle.ice_ram_read.specs.RamTexts.{RamData, AreFirst};
+ghost use Rattle.ice_ram_read.specs.RamClocks.{ram_clocks};
+ghost use Rattle.ice_ram_read.specs.RamData.{RamData};
+ghost use Rattle.ice_ram_read.specs.RamTexts.{AreFirst};
 ghost use Rattle.ice_ram_read.specs.ClosedNetlists.{ClosedNetlistData, ram_of, closed_with, closed_netlist_of};
 
+use crate::clocks::clocks_from;
 use crate::cutting::cut;
 use crate::ram_text::RamText;
 use crate::reading::{MOST_RAMS, rams_of};
-use ice_base::NoMemory;
+use ice_base::{NoMemory, SignalNo};
 use ice_blif::{BlifFault, read_blif};
 use ice_net::Netlist;
 use ice_ram::{RAM_PORTS, Ram};
@@ -48,6 +51,17 @@ impl ClosedNetlist {
         ensures { result ≡ length self.now.rams }
     {
         self.rams.len()
+    }
+
+    /// The signals that the RAMs have as their clocks, of each that of its read clock and that of its write clock: where the clocks of the
+    /// netlist are promoted, these are its outer clocks.
+    ///
+    /// # Errors
+    /// Want of memory alone.
+    pub fn clocks(&self, alloc: Global) -> Result<Vec<SignalNo>, NoMemory>
+        ensures { IfOk result (λ signals. signals.items ≡ ram_clocks self.now) }
+    {
+        clocks_from(alloc, self.netlist.ports(), self.first, self.rams.len())
     }
 
     /// The netlist, with the ports of its RAMs. The RAMs are let go.

@@ -1,6 +1,6 @@
 //! Contents of RAMs.
 ghost use Rattle.std.specs.Prelude.{◌≡◌, ◌<◌, length};
-ghost use Rattle.ice_ram_read.specs.RamTexts.{digit_at, row_word, new_word, with_row};
+ghost use Rattle.ice_ram_read.specs.RamData.{digit_at, row_word, new_word, with_row};
 
 // Whether bit n of contents is 1: the last digit is bit 0, and a digit that is missing is 0.
 fn digit_at(digits: &[u8], n: usize) -> bool

@@ -3,6 +3,7 @@
 #![tactic(auto)]
 
 mod apart;
+mod clocks;
 mod closed;
 mod contents;
 mod cutting;

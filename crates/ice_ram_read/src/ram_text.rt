@@ -1,6 +1,6 @@
 //! A RAM as its lines say it.
 ghost use Rattle.std.specs.Prelude.{◌≡◌, ◌<◌, length, IfOk};
-ghost use Rattle.ice_ram_read.specs.RamTexts.{with_row, no_words};
+ghost use Rattle.ice_ram_read.specs.RamData.{with_row, no_words};
 ghost use Rattle.ice_ram_read.specs.ClosedNetlists.{ram_of};
 
 use crate::contents::set_row;
@@ -27,7 +27,7 @@ pub(crate) struct RamText {
 }
 
 impl Model for RamText {
-    ghost use Rattle.ice_ram_read.specs.RamTexts.{RamData};
+    ghost use Rattle.ice_ram_read.specs.RamData.{RamData};
     ghost use Rattle.ice_ram_read.specs.Views.{text_view, IsRamText};
 
     ghost Value = { RamData };
@@ -39,7 +39,7 @@ impl Model for RamText {
 
 impl RamText {
     /// A RAM of that line, all of whose bits are 0.
-    #[tactic(auto, unfolding(crate::specs::RamTexts::no_words))]
+    #[tactic(auto, unfolding(crate::specs::RamData::no_words))]
     pub(crate) fn new(
         alloc: Global,
         line: u32,

@@ -4,7 +4,8 @@ ghost use Rattle.ice_blif.specs.Grammar.{equals_at};
 ghost use Rattle.ice_blif.specs.JoinedLines.{filled};
 ghost use Rattle.ice_blif.specs.Views.{words_left, lines_left};
 ghost use Rattle.ice_ram_words.specs.Words.{row_of, edges_of};
-ghost use Rattle.ice_ram_read.specs.RamTexts.{found, actual_found, connected, signals_said, opened, opened_by, mode_of, mode_said, value_said, param_said, listed, AreFirst, rams_said, rams_of, after_line, before_line};
+ghost use Rattle.ice_ram_read.specs.RamData.{new_ram, mode_of, mode_said, value_said, param_said};
+ghost use Rattle.ice_ram_read.specs.RamTexts.{found, actual_found, connected, signals_said, opened, opened_by, listed, AreFirst, rams_said, rams_of, after_line, before_line};
 
 use crate::ram_text::RamText;
 use ice_base::{NoMemory, SignalNo};

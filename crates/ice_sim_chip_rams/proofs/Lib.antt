@@ -1,3 +1,3 @@
-mod Pins
+pub mod Pins
 mod StepsTold
 mod Words

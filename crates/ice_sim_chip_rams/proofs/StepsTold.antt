@@ -18,7 +18,7 @@ use Rattle.ice_sim_chip_rams.specs.ClosedChips.{all_pads, rams_at, closed_step, 
 -- ---- one step
 -- a step of the chip of a run
 abbrev pub step_of : ChipRunData → ℕ → State × List (Setup × Kept) → List Bool → (State × List (Setup × Kept)) × List Drive
-step_of run first = closed_step run.parts run.configuration run.bonded first
+step_of run first = closed_step run.parts run.configuration run.bonded first run.bonded first
 
 as_many : (drives : List Drive) (k : ℕ) (rams : List (Setup × Kept)) → length (after_all drives k rams) ≡ length rams
 as_many drives k [] = refl
@@ -70,9 +70,9 @@ told_all f first s left text all none told = sym (told ∙ ap (λ l. text ++ dri
 -- what is told of these pads and block RAMs is what is told of the sites
 pub shown_same : (parts : Parts) (k read : Configuration) (sites : List RamSite) (bonded pads : List Pad) (first : ℕ) (held : List (Setup × Kept)) (levels : List (List Bool)) → read ≡ k
     → pads ≡ all_pads sites bonded → first ≡ length bonded → held ≡ rams_at parts read sites
-    → drives_text (shown_from parts k pads first (chip_start parts, held) levels) ≡ drives_text (shown_with parts k sites bonded levels)
+    → drives_text (shown_from parts k pads first pads first (chip_start parts, held) levels) ≡ drives_text (shown_with parts k sites bonded bonded levels)
 shown_same parts k read sites bonded pads first held levels same pads_are first_is held_are =
-    ap (λ (ps : List Pad). drives_text (shown_from parts k ps first (chip_start parts, held) levels)) pads_are
-    ∙ ap (λ (n : ℕ). drives_text (shown_from parts k (all_pads sites bonded) n (chip_start parts, held) levels)) first_is
-    ∙ ap (λ (hs : List (Setup × Kept)). drives_text (shown_from parts k (all_pads sites bonded) (length bonded) (chip_start parts, hs) levels))
+    ap (λ (ps : List Pad). drives_text (shown_from parts k ps first ps first (chip_start parts, held) levels)) pads_are
+    ∙ ap (λ (n : ℕ). drives_text (shown_from parts k (all_pads sites bonded) n (all_pads sites bonded) n (chip_start parts, held) levels)) first_is
+    ∙ ap (λ (hs : List (Setup × Kept)). drives_text (shown_from parts k (all_pads sites bonded) (length bonded) (all_pads sites bonded) (length bonded) (chip_start parts, hs) levels))
     (held_are ∙ ap (λ (c : Configuration). rams_at parts c sites) same)

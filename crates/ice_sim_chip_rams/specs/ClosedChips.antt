@@ -50,23 +50,25 @@ abbrev pub rams_at : Parts → Configuration → List RamSite → List (Setup ×
 rams_at parts k sites = map (ram_at parts k) sites
 
 -- ---- the closing
--- the pads that have levels and are seen: other pads, and behind them the pins of block RAMs
+-- other pads, and behind them the pins of block RAMs
 abbrev pub all_pads : List RamSite → List Pad → List Pad
-all_pads sites bonded = bonded ++ pins_of sites
+all_pads sites others = others ++ pins_of sites
 
--- One step of the chip that these block RAMs close, seen at these pads, of which so many stand before the pins: these have the levels
--- from outside, and the pins those that the block RAMs show.
-unfoldable pub closed_step : Parts → Configuration → List Pad → ℕ → State × List (Setup × Kept) → List Bool → (State × List (Setup × Kept)) × List Drive
-closed_step parts k pads first = closed (open_chip.chip_step parts (bits_of k) k.extras pads pads) (joined_levels first) (λ held drives. after_all drives first held)
+-- One step of the chip that block RAMs close. Pads have levels, of which so many stand before the pins: these have the levels from outside,
+-- and the pins those that the block RAMs show. Pads are seen, of which so many stand before the pins, whose drives the block RAMs take.
+unfoldable pub closed_step : Parts → Configuration → List Pad → ℕ → List Pad → ℕ → State × List (Setup × Kept) → List Bool → (State × List (Setup × Kept)) × List Drive
+closed_step parts k pads first shown before =
+    closed (open_chip.chip_step parts (bits_of k) k.extras pads shown) (joined_levels first) (λ held drives. after_all drives before held)
 
--- what is seen at so many first pads
-abbrev pub shown_from : Parts → Configuration → List Pad → ℕ → State × List (Setup × Kept) → List (List Bool) → List (List Drive)
-shown_from parts k pads first state levels = map (take first) (machine_shows (closed_step parts k pads first) state levels)
+-- what is seen at the pads before the pins
+abbrev pub shown_from : Parts → Configuration → List Pad → ℕ → List Pad → ℕ → State × List (Setup × Kept) → List (List Bool) → List (List Drive)
+shown_from parts k pads first shown before state levels = map (take before) (machine_shows (closed_step parts k pads first shown before) state levels)
 
--- what the chip that the block RAMs of these sites close drives at the pads `bonded`
-abbrev pub shown_with : Parts → Configuration → List RamSite → List Pad → List (List Bool) → List (List Drive)
-shown_with parts k sites bonded levels = shown_from parts k (all_pads sites bonded) (length bonded) (open_chip.chip_start parts, rams_at parts k sites) levels
+-- what the chip that the block RAMs of these sites close drives at the pads `shown`, for a list of levels of the pads `bonded`
+abbrev pub shown_with : Parts → Configuration → List RamSite → List Pad → List Pad → List (List Bool) → List (List Drive)
+shown_with parts k sites bonded shown levels =
+    shown_from parts k (all_pads sites bonded) (length bonded) (all_pads sites shown) (length shown) (open_chip.chip_start parts, rams_at parts k sites) levels
 
--- What the chip that its block RAMs close drives at the pads `bonded`, step by step, for a list of levels of these pads.
-abbrev pub closed_bits_show : Parts → Configuration → List Pad → List (List Bool) → List (List Drive)
-closed_bits_show parts k bonded levels = shown_with parts k (rams parts (bits_of k)) bonded levels
+-- What the chip that its block RAMs close drives at the pads `shown`, step by step, for a list of levels of the pads `bonded`.
+abbrev pub closed_bits_show : Parts → Configuration → List Pad → List Pad → List (List Bool) → List (List Drive)
+closed_bits_show parts k bonded shown levels = shown_with parts k (rams parts (bits_of k)) bonded shown levels

@@ -34,12 +34,13 @@ fn play_step(
     requires joined { length joined.old ≡ length run.old.bonded }
     requires drives { length drives.old ≡ length run.old.bonded }
     ensures run { run.new ≡ with_state run.old (closed_step run.old.parts run.old.configuration
-        run.old.bonded first (run.old.state, rams.old) levels.now).0.0 }
+        run.old.bonded first run.old.bonded first (run.old.state, rams.old) levels.now).0.0 }
     ensures rams { rams.new ≡ (closed_step run.old.parts run.old.configuration run.old.bonded first
-        (run.old.state, rams.old) levels.now).0.1 }
+        run.old.bonded first (run.old.state, rams.old) levels.now).0.1 }
     ensures text { OnOk result
         (text.new.items ≡ text.old.items ++ drives_line (take first (closed_step run.old.parts
-        run.old.configuration run.old.bonded first (run.old.state, rams.old) levels.now).1)) }
+        run.old.configuration run.old.bonded first run.old.bonded first
+        (run.old.state, rams.old) levels.now).1)) }
 {
     step(run, rams, first, levels, joined, drives);
     put_drives(text, &drives[..first])
@@ -59,7 +60,8 @@ fn play_on(
     requires joined { length joined.old ≡ length run.old.bonded }
     requires drives { length drives.old ≡ length run.old.bonded }
     ensures { OnOk result (text.new.items ≡ text.old.items ++ drives_text (shown_from run.old.parts
-        run.old.configuration run.old.bonded first (run.old.state, rams.old) levels.now)) }
+        run.old.configuration run.old.bonded first run.old.bonded first
+        (run.old.state, rams.old) levels.now)) }
 {
     for step in levels.steps() {
         play_step(run, rams, first, step, joined, drives, text)?;
@@ -80,7 +82,8 @@ fn play_at(
     requires circuit { IsCircuitOf chip.now circuit.now.configuration circuit.now }
     requires pads { length pads.now ≡ first + 74 * length rams.old }
     ensures { IfOk result (λ text. text.items ≡ drives_text (shown_from chip.now
-        circuit.now.configuration pads.now first (chip_start chip.now, rams.old) levels.now)) }
+        circuit.now.configuration pads.now first pads.now first
+        (chip_start chip.now, rams.old) levels.now)) }
 {
     let mut run = ChipRun::new(alloc, chip, circuit, pads)?;
     let mut joined = vec![in alloc; false; pads.len()]?;
@@ -110,7 +113,7 @@ fn play_closed(
     requires circuit { IsCircuitOf chip.now circuit.now.configuration circuit.now }
     requires bits { IsOf chip.now circuit.now.configuration }
     ensures { IfOk result (λ text. text.items ≡ drives_text
-        (shown_with chip.now circuit.now.configuration sites.now bonded.now levels.now)) }
+        (shown_with chip.now circuit.now.configuration sites.now bonded.now bonded.now levels.now)) }
 {
     let pads = all_pads(alloc, sites, bonded)?;
     let mut held = rams_at(alloc, chip, circuit.bits(), sites)?;
@@ -133,7 +136,8 @@ pub fn play_chip(
     requires circuit { IsCircuitOf chip.now circuit.now.configuration circuit.now }
     requires bits { IsOf chip.now circuit.now.configuration }
     ensures { IfOk result (λ text. text.items
-        ≡ drives_text (closed_bits_show chip.now circuit.now.configuration bonded.now levels.now)) }
+        ≡ drives_text
+        (closed_bits_show chip.now circuit.now.configuration bonded.now bonded.now levels.now)) }
 {
     let sites = rams(alloc, chip, circuit.bits())?;
     let text = play_closed(alloc, chip, circuit, &sites, bonded, levels)?;

@@ -21,11 +21,11 @@ pub(crate) fn step(
     requires joined { length joined.old ≡ length run.old.bonded }
     requires drives { length drives.old ≡ length run.old.bonded }
     ensures run { run.new ≡ with_state run.old (closed_step run.old.parts run.old.configuration
-        run.old.bonded first (run.old.state, rams.old) levels.now).0.0 }
+        run.old.bonded first run.old.bonded first (run.old.state, rams.old) levels.now).0.0 }
     ensures rams { rams.new ≡ (closed_step run.old.parts run.old.configuration run.old.bonded first
-        (run.old.state, rams.old) levels.now).0.1 }
+        run.old.bonded first (run.old.state, rams.old) levels.now).0.1 }
     ensures drives { drives.new ≡ (closed_step run.old.parts run.old.configuration run.old.bonded
-        first (run.old.state, rams.old) levels.now).1 }
+        first run.old.bonded first (run.old.state, rams.old) levels.now).1 }
 {
     join_levels(first, levels, rams, joined);
     run.step(joined, drives);

@@ -1,21 +1,12 @@
 //! Cases as data. The program reads cases on its standard input, runs the flow over a desk in memory for each, and says the status, what
 //! was said and the files. The head of the file `stdin` says the form.
 //!
-//! Before that it shows what stands between the passes for each netlist that it is called with: the packed design, its clusters, and with
-//! pin constraints pads and globals, the first placement, its wire length and its nets, or the first refusal; then what routing says of
-//! that placement, and the text of the bits. It is for tests, and no part of the flow.
+//! Before that it shows what stands between the passes for each netlist that it is called with. It is for tests, and no part of the flow.
 #![tactic(auto)]
 
 mod answer;
 mod cases;
-mod design;
-mod faults;
-mod layout;
 mod netlists;
-mod passes;
-mod placed;
-mod routes;
-mod text;
 
 use anyhow::Result;
 use cases::{Cases, heads};

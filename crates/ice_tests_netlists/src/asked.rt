@@ -10,7 +10,7 @@ use ice_check::{Sound, check};
 use ice_chip::Chip;
 use ice_chip_read::read_chip;
 use ice_pack::pack;
-use ice_pads::{Pads, assign};
+use ice_pads::{Closing, Pads, assign};
 use ice_pcf::read_pcf;
 use std::alloc::Global;
 use std::process::Abort;
@@ -42,7 +42,16 @@ fn expect_pins(
     wanted: &[u8],
 ) {
     let pcf = read_pcf(alloc, text).expect(rt, "constraints");
-    let answer = assign(alloc, chip, b"sample", &pcf, sound.netlist(), design);
+    let closing = Closing::open(sound.netlist());
+    let answer = assign(
+        alloc,
+        chip,
+        b"sample",
+        &pcf,
+        sound.netlist(),
+        closing,
+        design,
+    );
     drop(pcf);
     let found = said(rt, alloc, &answer);
     drop(answer);
@@ -52,7 +61,16 @@ fn expect_pins(
 // The pads by no constraint.
 fn free_pads(rt: &impl Abort, alloc: Global, chip: &Chip, sound: &Sound, design: &Design) -> Pads {
     let pcf = read_pcf(alloc, b"").expect(rt, "constraints");
-    let answer = assign(alloc, chip, b"sample", &pcf, sound.netlist(), design);
+    let closing = Closing::open(sound.netlist());
+    let answer = assign(
+        alloc,
+        chip,
+        b"sample",
+        &pcf,
+        sound.netlist(),
+        closing,
+        design,
+    );
     drop(pcf);
     answer.expect(rt, "pads")
 }

@@ -1,23 +1,27 @@
 -- Lists of entries, as they are made one after another.
-use Rattle.std.proofs.Common.{◌≡◌, ℕ, ◌+◌, ◌<◌, ◌≤◌, Bool, true, false, cond, List, [], ◌∷◌, ◌++◌, length, get_or, map, filter, take, Option, refl, sym, ap, ◌∙◌, append_assoc}
-use Rattle.std.specs.List.{flat_map}
+use Rattle.std.proofs.Common.{◌≡◌, ℕ, ◌+◌, ◌<◌, ◌≤◌, Bool, true, false, cond, List, [], ◌∷◌, ◌++◌, length, get_or, map, filter, take, Option, refl, sym, ap, ◌∙◌, arith, append_assoc}
+use Rattle.std.specs.List.{flat_map, range_with_len}
 use Rattle.std.proofs.lemmas.List.{take_more, take_all, map-append, flat_map_more}
 use Rattle.std.proofs.lemmas.List.Concat.{flat_map-append}
+use Rattle.std.proofs.lemmas.List.FromFn.{map-range_with_len_more}
 use Rattle.ice_base.specs.declared.number.TileAt.{TileAt}
 use Rattle.ice_base_values.specs.System.{present}
-use Rattle.ice_base_values.proofs.Gaps.{present_more}
+use Rattle.ice_base_values.proofs.Gaps.{present_append, present_more}
 use Rattle.ice_chip.specs.Database.{Parts}
 use Rattle.ice_chip.specs.Lookups.{is_io_kind}
 use Rattle.ice_chip.specs.Listings.{tile_of}
 use Rattle.ice_chip.specs.declared.rows.TileLine.{TileLine}
 use Rattle.ice_chip.specs.declared.tile.Tile.{Tile}
+use Rattle.ice_chip_rams.specs.declared.ram_site.RamSite.{RamSite}
 use Rattle.ice_bits.specs.Configuration.{Bits}
 use Rattle.ice_decode.specs.declared.point.Point.{Point}
 use Rattle.ice_decode.specs.Pads.{pads_in, is_io_tile, pads}
 use Rattle.ice_timing.specs.declared.end.End.{End}
+use Rattle.ice_timing.specs.declared.end.End.TheVariants.{Ram}
 use Rattle.ice_timing.specs.declared.end.Door.{Door}
+use Rattle.ice_timing.specs.declared.end.Door.TheVariants.{Port}
 use Rattle.ice_timing.specs.declared.end.Entry.{Entry}
-use Rattle.ice_timing.specs.Entries.{entry, entries_by, pad_entries, io_entries}
+use Rattle.ice_timing.specs.Entries.{entry, entries_by, pad_entries, io_entries, ram_last, ram_lasts, ram_entries}
 
 -- ---- one thing more
 pub entries_more : (end : End) (door : Door) (start now next : List Entry) (lasts : List (Option Point)) (i : ℕ) (d : Option Point) → i < length lasts
@@ -48,6 +52,24 @@ two_parts start one two first second e f = f ∙ ap (λ l. l ++ second) e ∙ ap
 -- both parts, where a test lets them in
 pub let_in : {X : Type 0} (test : Bool) (start one two first second : List X) → test ≡ true → one ≡ start ++ first → two ≡ one ++ second → two ≡ start ++ cond test (first ++ second) []
 let_in test start one two first second is e f = two_parts start one two first second e f ∙ ap (λ b. start ++ cond b (first ++ second) []) (sym is)
+
+-- ---- block RAMs, wire by wire
+pub ram_more : (parts : Parts) (s : RamSite) (n : ℕ) (last : Option Point) (start now next : List Entry) → last ≡ ram_last parts s n
+    → now ≡ start ++ entries_by (Ram s.lower) Port (map (ram_last parts s) (range_with_len 0 n)) → next ≡ now ++ entries_by (Ram s.lower) Port (last ∷ [])
+    → next ≡ start ++ entries_by (Ram s.lower) Port (map (ram_last parts s) (range_with_len 0 (n + 1)))
+ram_more parts s n last start now next is so_far more =
+    let before : List (Option Point) = map (ram_last parts s) (range_with_len 0 n) in
+    two_parts start now next (entries_by (Ram s.lower) Port before) (entries_by (Ram s.lower) Port (last ∷ [])) so_far more
+    ∙ ap (λ l. start ++ l)
+    (sym (map-append (entry (Ram s.lower) Port) (present before) (present (last ∷ [])))
+    ∙ ap (map (entry (Ram s.lower) Port)) (sym (present_append before (last ∷ [])))
+    ∙ ap (λ o. entries_by (Ram s.lower) Port (before ++ o ∷ [])) is
+    ∙ ap (entries_by (Ram s.lower) Port) (sym (map-range_with_len_more (ram_last parts s) 0 n n (omega arith))))
+
+pub ram_whole : (parts : Parts) (s : RamSite) (n : ℕ) (start now : List Entry) → n ≡ 76 → now ≡ start ++ entries_by (Ram s.lower) Port (map (ram_last parts s) (range_with_len 0 n))
+    → now ≡ start ++ ram_entries parts s
+unfolding ram_lasts
+ram_whole parts s n start now all so_far = so_far ∙ ap (λ m. start ++ entries_by (Ram s.lower) Port (map (ram_last parts s) (range_with_len 0 m))) all
 
 -- ---- pads, tile by tile
 pads_joined : (parts : Parts) (bits : Bits) (tiles : List (TileAt × TileLine))

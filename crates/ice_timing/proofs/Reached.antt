@@ -1,7 +1,7 @@
 -- The points by which a path gets into an end are points of the chip.
 use Rattle.std.proofs.Common.{◌≡◌, ℕ, zero, suc, ◌<◌, Bool, true, false, cond, List, [], ◌∷◌, ◌++◌, Some, None, Option, inl, inr, refl, subst, map}
-use Rattle.std.specs.Prelude.{option_map, ◌/◌, ◌==◌}
-use Rattle.std.specs.List.{flat_map}
+use Rattle.std.specs.Prelude.{option_map, ◌/◌, ◌==◌, ◌||◌}
+use Rattle.std.specs.List.{flat_map, range_with_len}
 use Rattle.std.proofs.lemmas.Option.{same_Some}
 use Rattle.std.proofs.lemmas.List.Elements.{All-map, All-filter}
 use Rattle.ice_base.specs.declared.number.TileAt.{TileAt}
@@ -14,23 +14,27 @@ use Rattle.ice_chip.specs.IsRead.{IsRead}
 use Rattle.ice_chip.specs.Lookups.{wire_named, placed_at, placed_wire, placed_names, is_placed}
 use Rattle.ice_chip.specs.WholeFaults.{same_placed}
 use Rattle.ice_chip.specs.Names.{input_name, pad_output_name, output_enable_name}
+use Rattle.ice_chip.specs.RamNames.{ram_name, is_read_out}
 use Rattle.ice_chip.specs.WireNames.{clock_enable_name, set_reset_name}
 use Rattle.ice_chip.specs.declared.placed.PlacedName.{PlacedName}
 use Rattle.ice_chip.specs.declared.rows.Pad.{Pad}
+use Rattle.ice_chip_rams.specs.Sites.{ram_tile}
+use Rattle.ice_chip_rams.specs.declared.ram_site.RamSite.{RamSite}
 use Rattle.ice_bits.specs.Configuration.{Bits}
 use Rattle.ice_decode.specs.declared.point.Point.{Point}
 use Rattle.ice_decode.specs.Cells.{eight, logic_tiles, has_flop}
 use Rattle.ice_decode.specs.Pads.{pads, pin_type}
+use Rattle.ice_decode.specs.Rams.{rams}
 use Rattle.ice_decode.specs.Reads.{wire_point, at_pin, cell_inputs}
 use Rattle.ice_decode.specs.Points.{points}
 use Rattle.ice_decode.proofs.Members.{Has_append_cases}
 use Rattle.ice_decode.proofs.PointPlaces.{wire_at}
 use Rattle.ice_timing.specs.declared.end.End.{End}
-use Rattle.ice_timing.specs.declared.end.End.TheVariants.{Flop, Pad as PadEnd}
+use Rattle.ice_timing.specs.declared.end.End.TheVariants.{Flop, Pad as PadEnd, Ram}
 use Rattle.ice_timing.specs.declared.end.Door.{Door}
-use Rattle.ice_timing.specs.declared.end.Door.TheVariants.{Table, Control}
+use Rattle.ice_timing.specs.declared.end.Door.TheVariants.{Table, Control, Port}
 use Rattle.ice_timing.specs.declared.end.Entry.{Entry}
-use Rattle.ice_timing.specs.Entries.{entry, entries_by, controls, flop_entries, tile_entries, pad_door, pad_lasts, pad_entries, entries}
+use Rattle.ice_timing.specs.Entries.{entry, entries_by, controls, flop_entries, tile_entries, pad_door, pad_lasts, pad_entries, is_ram_clock, ram_last, ram_lasts, ram_entries, entries}
 
 module _ (parts : Parts) (read : IsRead parts) where
   -- ---- points that may be missing
@@ -103,8 +107,25 @@ module _ (parts : Parts) (read : IsRead parts) where
       second true = (pin_exists pad.tile (pad_output_name pad.pio), (pin_exists pad.tile (output_enable_name pad.pio), tt))
       second false = tt
 
+  ram_last_exists : (s : RamSite) (n : ℕ) → Exists (ram_last parts s n)
+  ram_last_exists s n = by (is_read_out n || is_ram_clock n)
+    where
+      by : (b : Bool) → Exists (cond b None (at_pin parts (ram_tile s n) (ram_name n)))
+      by true = tt
+      by false = pin_exists (ram_tile s n) (ram_name n)
+
+  each_exists : (f : ℕ → Option Point) → ((n : ℕ) → Exists (f n)) → (ns : List ℕ) → AllExist (map f ns)
+  each_exists f exists [] = tt
+  each_exists f exists (n ∷ ns) = (exists n, each_exists f exists ns)
+
+  ram_lasts_exist : (s : RamSite) → AllExist (ram_lasts parts s)
+  unfolding ram_lasts
+  ram_lasts_exist s = each_exists (ram_last parts s) (ram_last_exists s) (range_with_len 0 76)
+
   pub entries_lead : (bits : Bits) (e : Entry) → Has (entries parts bits) e → Has (points parts) e.last
   entries_lead bits =
-      both_lead (flat_map (tile_entries parts bits) (logic_tiles parts)) (flat_map (pad_entries parts bits) (pads parts))
+      both_lead (flat_map (tile_entries parts bits) (logic_tiles parts) ++ flat_map (pad_entries parts bits) (pads parts)) (flat_map (ram_entries parts) (rams parts bits))
+      (both_lead (flat_map (tile_entries parts bits) (logic_tiles parts)) (flat_map (pad_entries parts bits) (pads parts))
       (all_lead (tile_entries parts bits) (λ t. all_lead (flop_entries parts bits t) (flop_leads bits t) eight) (logic_tiles parts))
-      (all_lead (pad_entries parts bits) (λ pad. by_leads (PadEnd pad) (pad_door (pin_type parts bits pad / 4)) (pad_lasts parts pad (pin_type parts bits pad / 4)) (lasts_exist pad (pin_type parts bits pad / 4))) (pads parts))
+      (all_lead (pad_entries parts bits) (λ pad. by_leads (PadEnd pad) (pad_door (pin_type parts bits pad / 4)) (pad_lasts parts pad (pin_type parts bits pad / 4)) (lasts_exist pad (pin_type parts bits pad / 4))) (pads parts)))
+      (all_lead (ram_entries parts) (λ s. by_leads (Ram s.lower) Port (ram_lasts parts s) (ram_lasts_exist s)) (rams parts bits))

@@ -5,16 +5,20 @@ use Rattle.ice_base.specs.declared.number.TileAt.{TileAt}
 use Rattle.ice_decode.specs.declared.point.Point.{Point}
 use Rattle.ice_decode.specs.declared.point.Point.TheVariants.{Wire, Carry}
 use Rattle.ice_timing.specs.declared.end.End.{End}
-use Rattle.ice_timing.specs.declared.end.End.TheVariants.{Flop, Pad}
+use Rattle.ice_timing.specs.declared.end.End.TheVariants.{Flop, Pad, Ram}
 use Rattle.ice_timing.specs.declared.end.TimedPath.{TimedPath}
 
 -- a word and a number behind it
 abbrev pub counted : List ℕ → ℕ → List ℕ
 counted word n = word ++ (32 ∷ decimal n)
 
--- a place in a tile: its column, its row, and the number there
+-- a tile: its column and its row
+abbrev pub tile_words : List ℕ → TileAt → List ℕ
+tile_words word t = word ++ (32 ∷ decimal t.x) ++ (32 ∷ decimal t.y)
+
+-- a place in a tile, and the number there
 abbrev pub place : List ℕ → TileAt → ℕ → List ℕ
-place word t n = word ++ (32 ∷ decimal t.x) ++ (32 ∷ decimal t.y) ++ (32 ∷ decimal n)
+place word t n = tile_words word t ++ (32 ∷ decimal n)
 
 abbrev pub point_words : Point → List ℕ
 point_words (Wire w) = counted (codes "wire") w.0
@@ -23,6 +27,7 @@ point_words (Carry t i) = place (codes "carry") t i
 abbrev pub end_words : End → List ℕ
 end_words (Flop t i) = place (codes "flop") t i
 end_words (Pad pad) = place (codes "pad") pad.tile pad.pio
+end_words (Ram lower) = tile_words (codes "ram") lower
 
 -- what is reached when
 abbrev pub reached_line : List ℕ → ℕ → List ℕ

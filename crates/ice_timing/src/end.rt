@@ -16,6 +16,11 @@ pub enum End {
     },
     /// A pad that the chip drives.
     Pad(Pad),
+    /// A block RAM in use.
+    Ram {
+        /// The place of its lower tile.
+        lower: TileAt,
+    },
 }
 
 /// By what a path gets into its end.
@@ -29,6 +34,8 @@ pub enum Door {
     Outside,
     /// By the output wire of the pad, into its register.
     Register,
+    /// By a wire of a port of the block RAM.
+    Port,
 }
 
 /// An end, and one of the points by which a path may get there.

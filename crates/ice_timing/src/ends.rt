@@ -1,20 +1,21 @@
 //! All ends of a configured chip.
-ghost use Rattle.std.specs.Prelude.{◌≡◌, ◌++◌, ◌∷◌, [], OnOk, IfOk};
+ghost use Rattle.std.specs.Prelude.{◌≡◌, ◌<◌, ◌++◌, ◌∷◌, [], OnOk, IfOk};
 ghost use Rattle.std.specs.List.{flat_map};
 ghost use Rattle.ice_bits.specs.Configuration.{bits_of};
 ghost use Rattle.ice_chip.specs.Names.{input_name};
 ghost use Rattle.ice_decode.specs.Pads.{pads_in, pads};
 ghost use Rattle.ice_decode.specs.Reads.{at_pin, cell_inputs};
-ghost use Rattle.ice_timing.specs.Entries.{entries_by, controls, flop_entries, tile_entries, pad_door, pad_lasts, pad_entries, io_entries, entries};
+ghost use Rattle.ice_timing.specs.Entries.{entries_by, controls, flop_entries, tile_entries, pad_door, pad_lasts, pad_entries, io_entries, is_ram_clock, ram_last, ram_entries, entries};
 
 use crate::{Door, End, Entry};
 use ice_base::{NoMemory, TileAt};
 use ice_bits::Bits;
 use ice_chip::{
-    Chip, Pad, Tile, TileKind, clock_enable_name, input_name, output_enable_name, pad_output_name,
-    set_reset_name,
+    Chip, Pad, RAM_WIRES, Tile, TileKind, clock_enable_name, input_name, is_read_out,
+    output_enable_name, pad_output_name, ram_name, set_reset_name,
 };
-use ice_decode::{Point, at_pin, has_flop, logic_tiles, pin_type};
+use ice_chip_rams::{RamSite, ram_tile};
+use ice_decode::{Point, at_pin, has_flop, logic_tiles, pin_type, rams};
 use std::alloc::Global;
 
 // Adds an entry by a point, where there is one.
@@ -195,6 +196,47 @@ fn add_pads(entries: &mut Vec<Entry>, chip: &Chip, bits: &Bits) -> Result<(), No
     Ok(())
 }
 
+// Whether the wire of this number of a block RAM is the clock of a port: `ram/RCLK` or `ram/WCLK`.
+fn is_ram_clock(wire: u8) -> bool
+    ensures { result ≡ is_ram_clock wire }
+{
+    wire == 70 || wire == 71
+}
+
+// The wire of this number of a block RAM, unless the RAM drives it or it is a clock.
+fn ram_last(chip: &Chip, site: RamSite, wire: u8) -> Option<Point>
+    requires { wire < 76 }
+    ensures { result ≡ ram_last chip.now site wire }
+{
+    if is_read_out(wire) || is_ram_clock(wire) {
+        return None;
+    }
+    at_pin(chip, ram_tile(site, wire), ram_name(wire))
+}
+
+// Adds the entries of a block RAM.
+fn add_ram(entries: &mut Vec<Entry>, chip: &Chip, site: RamSite) -> Result<(), NoMemory>
+    ensures { OnOk result
+        (entries.new.items ≡ entries.old.items ++ ram_entries chip.now site) }
+{
+    let end = End::Ram { lower: site.lower };
+    for wire in 0..RAM_WIRES {
+        add_entry(entries, end, Door::Port, ram_last(chip, site, wire))?;
+    }
+    Ok(())
+}
+
+// Adds the entries of these block RAMs.
+fn add_rams(entries: &mut Vec<Entry>, chip: &Chip, sites: &[RamSite]) -> Result<(), NoMemory>
+    ensures { OnOk result (entries.new.items
+        ≡ entries.old.items ++ flat_map (ram_entries chip.now) sites.now) }
+{
+    for site in sites {
+        add_ram(entries, chip, *site)?;
+    }
+    Ok(())
+}
+
 /// All ends with the points by which a path leads into them.
 ///
 /// # Errors
@@ -203,8 +245,10 @@ pub(crate) fn entries(alloc: Global, chip: &Chip, bits: &Bits) -> Result<Vec<Ent
     ensures { IfOk result (λ all. all.items ≡ entries chip.now (bits_of bits.now)) }
 {
     let tiles = logic_tiles(alloc, chip)?;
+    let sites = rams(alloc, chip, bits)?;
     let mut entries = Vec::new(alloc);
     add_tiles(&mut entries, chip, bits, &tiles)?;
     add_pads(&mut entries, chip, bits)?;
+    add_rams(&mut entries, chip, &sites)?;
     Ok(entries)
 }

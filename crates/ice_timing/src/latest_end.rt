@@ -27,6 +27,7 @@ fn door_delay(delays: &Delays, door: Door) -> u64
         Door::Control => u64::from(delays.setup),
         Door::Outside => u64::from(delays.pad_out),
         Door::Register => u64::from(delays.setup),
+        Door::Port => u64::from(delays.setup),
     }
 }
 

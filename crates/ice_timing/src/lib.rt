@@ -1,5 +1,5 @@
 //! The longest path of a configured chip: when a signal arrives at each of its points, and the path on which one takes longest from a
-//! pad or a flip-flop to the next.
+//! pad, a flip-flop or a block RAM to the next.
 #![tactic(auto)]
 
 mod arrivals;

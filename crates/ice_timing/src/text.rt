@@ -1,7 +1,7 @@
 //! The text of a longest path.
 ghost use Rattle.std.specs.Prelude.{◌≡◌, ◌++◌, ◌∷◌, [], map, OnOk, IfOk, option_map, decimal};
 ghost use Rattle.ice_base.specs.Lines.{text_of_lines};
-ghost use Rattle.ice_timing.specs.PathText.{place, point_words, end_words, reached_line, point_line, longest_line, path_lines, path_text};
+ghost use Rattle.ice_timing.specs.PathText.{tile_words, place, point_words, end_words, reached_line, point_line, longest_line, path_lines, path_text};
 
 use crate::{End, TimedPath};
 use ice_base::{NoMemory, TileAt};
@@ -18,13 +18,21 @@ fn put_number(text: &mut Vec<u8>, number: u64) -> Result<(), NoMemory>
     Ok(())
 }
 
-// Writes a place in a tile.
-fn put_place(text: &mut Vec<u8>, word: &[u8], tile: TileAt, number: u8) -> Result<(), NoMemory>
-    ensures { OnOk result (text.new.items ≡ text.old.items ++ place word.now tile number) }
+// Writes a tile.
+fn put_tile(text: &mut Vec<u8>, word: &[u8], tile: TileAt) -> Result<(), NoMemory>
+    ensures { OnOk result (text.new.items ≡ text.old.items ++ tile_words word.now tile) }
 {
     text.extend_from_slice(word)?;
     put_number(text, u64::from(tile.x))?;
     put_number(text, u64::from(tile.y))?;
+    Ok(())
+}
+
+// Writes a place in a tile.
+fn put_place(text: &mut Vec<u8>, word: &[u8], tile: TileAt, number: u8) -> Result<(), NoMemory>
+    ensures { OnOk result (text.new.items ≡ text.old.items ++ place word.now tile number) }
+{
+    put_tile(text, word, tile)?;
     put_number(text, u64::from(number))?;
     Ok(())
 }
@@ -49,6 +57,7 @@ fn put_end(text: &mut Vec<u8>, end: End) -> Result<(), NoMemory>
     match end {
         End::Flop { tile, cell } => put_place(text, b"flop", tile, cell),
         End::Pad(pad) => put_place(text, b"pad", pad.tile, pad.pio),
+        End::Ram { lower } => put_tile(text, b"ram", lower),
     }
 }
 

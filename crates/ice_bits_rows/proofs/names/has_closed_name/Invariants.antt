@@ -1,7 +1,8 @@
 use Rattle.std.proofs.Common.{◌≡◌, drop}
 use Rattle.std.specs.List.{list_any}
-use Rattle.ice_bits_rows.specs.WireNames.{is_closed_name, has_closed_name}
+use Rattle.ice_chip.specs.Lookups.{kind_at}
+use Rattle.ice_bits_rows.specs.WireNames.{is_closed_in, has_closed_name}
 use Rattle.ice_bits_rows.proofs.names.has_closed_name.Given as goal
 
 abbrev pub invariant-loop-placed : goal.invariant-loop-placed
-invariant-loop-placed l = has_closed_name l.chip l.fn.wire.0 ≡ list_any (λ n. is_closed_name n.name) (drop l.placed-index l.placed-items)
+invariant-loop-placed l = has_closed_name l.chip l.fn.wire.0 ≡ list_any (λ n. is_closed_in (kind_at l.chip n.tile) n.name) (drop l.placed-index l.placed-items)

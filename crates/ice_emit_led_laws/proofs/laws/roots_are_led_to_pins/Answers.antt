@@ -14,6 +14,8 @@ returns c rows plan pullups routes placed trees =
       entries = of_rows.entries;
       ports = of_pins.ports;
       feeds = of_pins.feeds;
+      clock_enables = of_rows.clock_enables;
       origins = of_rows.origins;
       inputs = of_rows.inputs;
+      outputs = of_rows.outputs;
     }

@@ -1,4 +1,4 @@
-use Rattle.std.proofs.Common.{ℕ, ◌+◌, ◌≤◌, length, sym, ap, ◌∙◌, subst}
+use Rattle.std.proofs.Common.{ℕ, ◌+◌, ◌≤◌, length, sym, ap, ◌∙◌, subst, arith}
 use Rattle.std.specs.Prelude.{Ok, Err}
 use Rattle.std.proofs.lemmas.Result.{err_from_is_err_and}
 use Rattle.ice_bits.specs.Configuration.{bits_of}
@@ -10,7 +10,7 @@ use Rattle.ice_flow_build.specs.declared.answer.BuildFault.TheVariants.{NoMemory
 use Rattle.ice_flow_build.proofs.building.build_by.Goals as goal
 
 pub finish-requires-clause-placed : goal.finish-requires-clause-placed
-finish-requires-clause-placed g c κs within = let s = c.layouts_stand_on_their_chip.ensures c.args.name.now c.args.pcf.now c.in_ok-layout.layout c.in_ok-layout.ensures.laid in (s.0, s.2)
+finish-requires-clause-placed g c κs within = let s = c.layouts_stand_on_their_chip.ensures c.args.name.now c.args.pcf.now c.in_ok-layout.layout c.in_ok-layout.ensures.laid in let none = s.4 in (s.0, s.2, omega (arith, none))
 
 pub nets_by_signals-requires : goal.nets_by_signals-requires
 nets_by_signals-requires g c =
@@ -79,7 +79,7 @@ returns-in-Ok-clause-circuit g c =
     let stands = c.layouts_stand_on_their_chip.ensures c.args.name.now c.args.pcf.now c.in_ok-layout.layout laid in
     let finished = c.in_ok-built.ensures.finished in
     circuit c.args.sound.now c.args.index.now.chip.now c.in_ok-layout.layout c.in_ok-built.built finished.same
-    (c.realised_layouts_show_their_netlist.ensures c.args.index.now.chip.now c.args.name.now c.args.pcf.now c.in_ok-layout.layout (routes_in c.in_ok-built.built.routed) c.in_ok-built.built.bits laid stands finished.written
+    (c.realised_layouts_show_their_netlist.ensures c.args.name.now c.args.pcf.now c.in_ok-layout.layout (routes_in c.in_ok-built.built.routed) c.in_ok-built.built.bits laid stands finished.written
     (c.in_ok-built.ensures.realised (no_loop c.args.index.now.chip.now (bits_of c.in_ok-built.built.bits) c.in_ok-built.built.bits.extras c.in_ok-built.ensures.loopless c.in-Ok.ensures.loopless)))
 
 pub returns-in-Ok-clause-complete : goal.returns-in-Ok-clause-complete

@@ -5,7 +5,7 @@ use Rattle.ice_flow_prepare.proofs.Names.{has_room_at}
 use Rattle.ice_flow_prepare.proofs.preparing.prepare.Goals as goal
 
 pub add_tails-requires : goal.add_tails-requires
-add_tails-requires c = has_room_at c.args.sound c.in_ok-promoted.promoted (free_globals c.args.chip.now c.args.sound) c.requires c.in_ok-promoted.ensures.netlist
+add_tails-requires c = has_room_at c.args.sound c.in_ok-promoted.promoted c.args.outer.now (free_globals c.args.chip.now c.args.sound) c.requires c.in_ok-promoted.ensures.netlist
 
 pub returns-clause-netlist : goal.returns-clause-netlist
 returns-clause-netlist c = c.in_ok-made.ensures.netlist ∙ ap tailed c.in_ok-promoted.ensures.netlist

@@ -1,4 +1,4 @@
-use Rattle.std.proofs.Common.{[], sym, subst}
+use Rattle.std.proofs.Common.{◌≡◌, [], arith, sym, subst}
 use Rattle.ice_flow_build.specs.Laid.{IsLaidOut, task_of}
 use Rattle.ice_flow_build.specs.declared.answer.Layout.{Layout}
 use Rattle.ice_flow_sample_cmd.specs.Samples.{package_name}
@@ -8,7 +8,7 @@ use Rattle.ice_flow_sample_cmd.proofs.Refusing.{end_refused, sampled}
 use Rattle.ice_flow_sample_cmd.proofs.routing.route_placed.Goals as goal
 
 pub route_layout-requires-clause-placed : goal.route_layout-requires-clause-placed
-route_layout-requires-clause-placed g c κs within = let s = c.layouts_stand_on_their_chip.ensures package_name [] c.args.layout c.requires.laid in (s.0, s.2)
+route_layout-requires-clause-placed g c κs within = let s = c.layouts_stand_on_their_chip.ensures package_name [] c.args.layout c.requires.laid in let none : s.2.rams ≡ 0 = s.4 in (s.0, s.2, omega (arith, none))
 
 pub returns-in-Ok-clause-made : goal.returns-in-Ok-clause-made
 returns-in-Ok-clause-made g c =

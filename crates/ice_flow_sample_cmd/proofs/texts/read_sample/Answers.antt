@@ -10,7 +10,7 @@ returns-in-Err-clause-refused c = c.in-Err.ensures.refused c.args.number
 pub returns-in-Ok-read_sample_net-clause-task : goal.returns-in-Ok-read_sample_net-clause-task
 returns-in-Ok-read_sample_net-clause-task c =
     let net = c.in-Ok-read_sample_net.ensures in
-    record { is_chip = c.in-Ok.ensures.chip; is_name = refl; no_constraints = refl; is_circuit = net.netlist; is_sound = net.sound }
+    record { is_chip = c.in-Ok.ensures.chip; is_name = refl; no_constraints = refl; is_circuit = net.netlist; is_sound = net.sound; is_open = refl }
 
 pub returns-in-Err-read_sample_net-clause-refused : goal.returns-in-Err-read_sample_net-clause-refused
 returns-in-Err-read_sample_net-clause-refused c =

@@ -6,5 +6,5 @@ use Rattle.ice_pads.proofs.assigning.assign.Goals as goal
 
 pub returns : goal.returns
 returns c =
-    subst (λ (parts : Parts). Answers c.assign_by.result (assign_of parts c.args.name.now c.args.pcf.now c.args.netlist.now c.args.design.now))
+    subst (λ (parts : Parts). Answers c.assign_by.result (assign_of parts c.args.name.now c.args.pcf.now c.args.netlist.now c.args.closing c.args.design.now))
     c.in_ok-index.ensures c.assign_by.ensures

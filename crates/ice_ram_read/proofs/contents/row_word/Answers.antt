@@ -1,7 +1,7 @@
 use Rattle.std.proofs.Common.{◌≡◌, ◌+◌, ◌*◌, ◌%◌, false, length, length-set, ap, ◌∙◌, arith, set, get_or}
 use Rattle.std.proofs.lemmas.List.Edits.{fill_by_more}
 use Rattle.std.proofs.lemmas.List.FromFn.{fill_by_all}
-use Rattle.ice_ram_read.specs.RamTexts.{digit_at, row_word}
+use Rattle.ice_ram_read.specs.RamData.{digit_at, row_word}
 use Rattle.ice_ram_read.proofs.contents.row_word.Goals as goal
 
 pub loop-bit-preserved : goal.loop-bit-preserved

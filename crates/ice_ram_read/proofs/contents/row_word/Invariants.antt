@@ -1,5 +1,5 @@
 use Rattle.std.proofs.Common.{◌≡◌, ℕ, ◌+◌, ◌*◌, ◌%◌, ◌<◌, false, length, get_or}
-use Rattle.ice_ram_read.specs.RamTexts.{digit_at}
+use Rattle.ice_ram_read.specs.RamData.{digit_at}
 use Rattle.ice_ram_read.proofs.contents.row_word.Given as goal
 
 abbrev pub invariant-loop-bit : goal.invariant-loop-bit

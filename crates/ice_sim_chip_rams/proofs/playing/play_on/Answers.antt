@@ -25,7 +25,7 @@ loop-step-preserved c =
       omega (arith, c.play_step.auto.joined, c.loop-step.invariant.4, pads),
       omega (arith, c.play_step.auto.drives, c.loop-step.invariant.5, pads),
       told_more (step_of begun first) first (run.state, rams) (next.state, later) levels c.loop-step.step-iterator c.next.new.self c.loop-step.text.items c.play_step.new.text.items
-          (c.args.text.now.items ++ drives_text (shown_from begun.parts begun.configuration begun.bonded first (begun.state, c.args.rams.now) c.args.levels.now)) c.in-Some.ensures.steps
+          (c.args.text.now.items ++ drives_text (shown_from begun.parts begun.configuration begun.bonded first begun.bonded first (begun.state, c.args.rams.now) c.args.levels.now)) c.in-Some.ensures.steps
           (stepped begun run next first rams later levels c.loop-step.invariant.2 c.play_step.ensures.run c.play_step.ensures.rams)
           (line_of begun run first rams levels c.loop-step.text.items c.play_step.new.text.items c.loop-step.invariant.2 c.in_ok-play_step.ensures.text) c.loop-step.invariant.6,
     )
@@ -35,5 +35,5 @@ returns c =
     let begun = c.args.run.now in
     let first = c.args.first in
     told_all (step_of begun first) first (c.loop-step.run.state, c.loop-step.rams) c.loop-step.step-iterator c.loop-step.text.items
-    (c.args.text.now.items ++ drives_text (shown_from begun.parts begun.configuration begun.bonded first (begun.state, c.args.rams.now) c.args.levels.now)) c.in-None.ensures.steps.0
+    (c.args.text.now.items ++ drives_text (shown_from begun.parts begun.configuration begun.bonded first begun.bonded first (begun.state, c.args.rams.now) c.args.levels.now)) c.in-None.ensures.steps.0
     c.loop-step.invariant.6

@@ -11,5 +11,5 @@ invariant-loop-step l =
     × (length l.run.bonded ≡ l.first + 74 * length l.rams)
     × (length l.joined ≡ length l.run.bonded)
     × (length l.drives ≡ length l.run.bonded)
-    × (l.fn.text.items ++ drives_text (shown_from l.fn.run.parts l.fn.run.configuration l.fn.run.bonded l.first (l.fn.run.state, l.fn.rams) l.levels)
-    ≡ l.text.items ++ drives_text (shown_from l.fn.run.parts l.fn.run.configuration l.fn.run.bonded l.first (l.run.state, l.rams) l.step-iterator))
+    × (l.fn.text.items ++ drives_text (shown_from l.fn.run.parts l.fn.run.configuration l.fn.run.bonded l.first l.fn.run.bonded l.first (l.fn.run.state, l.fn.rams) l.levels)
+    ≡ l.text.items ++ drives_text (shown_from l.fn.run.parts l.fn.run.configuration l.fn.run.bonded l.first l.fn.run.bonded l.first (l.run.state, l.rams) l.step-iterator))

@@ -1,5 +1,5 @@
 use Rattle.std.proofs.Common.{List, Bool, ap}
-use Rattle.ice_ram_read.specs.RamTexts.{no_words}
+use Rattle.ice_ram_read.specs.RamData.{no_words}
 use Rattle.ice_ram_read.proofs.Starts.{made_text}
 use Rattle.ice_ram_read.proofs.ram_text.RamText.new.Goals as goal
 

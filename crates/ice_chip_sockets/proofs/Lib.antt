@@ -1,0 +1,5 @@
+mod PinLists
+mod RamWireNames
+pub mod SiteFacts
+pub mod SocketWires
+pub mod SocketPins

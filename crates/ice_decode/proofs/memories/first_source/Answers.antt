@@ -1,5 +1,0 @@
-use Rattle.std.proofs.Common.{◌∙◌}
-use Rattle.ice_decode.proofs.memories.first_source.Goals as goal
-
-pub first_noted-requires-clause-memories : goal.first_noted-requires-clause-memories
-first_noted-requires-clause-memories c = c.deref.ensures.value ∙ c.in_ok-memories.ensures

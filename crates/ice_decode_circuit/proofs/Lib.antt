@@ -1,0 +1,9 @@
+pub mod Graphs
+pub mod Loopless
+pub mod TileLists
+pub mod ForeignBits
+pub mod PlainFaults
+pub mod DirectGlobals
+pub mod RowValues
+pub mod RowsOn
+pub mod Evaluated

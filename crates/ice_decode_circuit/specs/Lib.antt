@@ -1,0 +1,4 @@
+pub mod ForeignTiles
+pub mod ForeignPlaces
+pub mod PadTiles
+pub mod Searched

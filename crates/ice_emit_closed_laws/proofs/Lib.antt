@@ -1,0 +1,5 @@
+mod Levels
+mod Taking
+mod Holding
+mod Closing
+mod Elsewhere
